@@ -25,6 +25,11 @@ from dataclasses import dataclass, field
 from names import USE, Use, uses_of
 from tree import ANTT, CODE, Tree, read, write
 
+# The operators of the library's prelude: rt wants each file to import them from the library itself.
+OPERATORS = set(
+    "◌≡◌ ◌+◌ ◌-◌ ◌*◌ ◌/◌ ◌%◌ ◌^◌ ◌<◌ ◌≤◌ ◌&&◌ ◌||◌ ◌≢◌ ◌⊎◌ ◌↔◌ ◌∷◌ ◌++◌ ◌+ℤ◌ ◌-ℤ◌ ◌*ℤ◌ ◌≤ℤ◌ ◌<ℤ◌ if◌then◌else◌ ◌==◌".split()
+)
+
 # The modules of words: the part of the crate in which each stands, its name, and what it says of itself.
 KINDS = {
     "specs": ("specs", "Below", "-- The words of crates below that the definitions and contracts of this crate are written in."),
@@ -136,7 +141,8 @@ class Crate:
             for use in self.uses[path]:
                 if simple(use) and use.path in modules:
                     for name, _ in use.names():
-                        owner[name][use.path] += 1
+                        if name not in OPERATORS:
+                            owner[name][use.path] += 1
         passed: dict[str, list[str]] = defaultdict(list)
         for name, count in owner.items():
             # (the same name of another module stays where it is)

@@ -1,3 +1,5 @@
+pub mod Lemmas
+pub mod Below
 pub mod Slots
 pub mod Places
 pub mod Found

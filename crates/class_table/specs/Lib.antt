@@ -1,3 +1,4 @@
+pub mod Below
 pub mod Keys
 pub mod Stored
 pub mod Lines

@@ -1,9 +1,7 @@
 //! What a class gets from its bases: the best of them, and its linearisation.
 
-ghost use Rattle.std.specs.Prelude.{◌≡◌, ◌≤◌, true, length, Some, map, IfOk, IfSome, option_and_then};
-ghost use Rattle.class_model.specs.Class.{class_at, is_class, lin};
-ghost use Rattle.class_model.specs.Numbers.{is_ascending, limit};
-ghost use Rattle.class_model.specs.Layout.{solid, best_of};
+ghost use Rattle.class_table.specs.Below.{true, length, Some, map, IfOk, IfSome, option_and_then, class_at, is_class, lin, is_ascending, limit, solid, best_of};
+ghost use Rattle.std.specs.Prelude.{◌≡◌, ◌≤◌};
 ghost use Rattle.class_table.specs.MroMerge.Lists.{rows};
 ghost use Rattle.class_table.specs.Keys.{numbers, number_of};
 ghost use Rattle.class_table.specs.Stored.{classes_of};

@@ -1,7 +1,7 @@
 //! A copy of the classes, which takes in changes, and a change on its way to it.
 
-ghost use Rattle.std.specs.Prelude.{◌≡◌, IfOk};
-ghost use Rattle.class_table.specs.ClassLog.Change.{change_of};
+ghost use Rattle.class_view.specs.Below.{IfOk, change_of};
+ghost use Rattle.std.specs.Prelude.{◌≡◌};
 
 use class_table::class_log::{ClassChange, Replica};
 use left_right::Absorb;

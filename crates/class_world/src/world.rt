@@ -1,20 +1,8 @@
 //! The world, and how it begins.
 
-ghost use Rattle.std.specs.Prelude.{◌≡◌, ◌<◌, ℕ, List, false, [], map, Some, IfOk, slice_get};
-ghost use Rattle.py_node.specs.declared.built_in.BuiltIn.{BuiltIn};
-ghost use Rattle.py_node.specs.BuiltIns.{place_of, flags_of};
-ghost use Rattle.py_node.specs.Replies.{started_of};
-ghost use Rattle.py_node.specs.Known.{known_texts};
-ghost use Rattle.class_table.specs.Start.{start_classes};
-ghost use Rattle.class_table.specs.ClassLog.Change.{change_of};
-ghost use Rattle.class_table.specs.ClassLog.Logged.{AreSameButForNames};
-ghost use Rattle.class_table.specs.ClassLog.Refused.{AreMade};
-ghost use Rattle.class_table.specs.ClassLog.Shown.{shown, first_classes};
-ghost use Rattle.plain_machine.specs.Known.{the_none_type};
-ghost use Rattle.plain_machine.specs.Row.{none};
+ghost use Rattle.class_world.specs.Below.{ℕ, List, false, [], map, Some, IfOk, slice_get, BuiltIn, place_of, flags_of, started_of, known_texts, start_classes, change_of, AreSameButForNames, AreMade, shown, first_classes, the_none_type, none, start, IsSound};
+ghost use Rattle.std.specs.Prelude.{◌≡◌, ◌<◌};
 ghost use Rattle.plain_machine.specs.World.{class_at};
-ghost use Rattle.plain_machine.specs.Start.{start};
-ghost use Rattle.plain_machine.specs.Sound.{IsSound};
 ghost use Rattle.class_world.specs.Held.{Held};
 ghost use Rattle.class_world.specs.Reading.{Reading, Reads, plain, IsReadable};
 ghost use Rattle.class_world.specs.Sound.{flags_at, is_marked_heap};

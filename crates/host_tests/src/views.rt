@@ -1,8 +1,7 @@
 //! A machine that callers share, whose classes a reader looks up.
 
-ghost use Rattle.std.specs.Prelude.{◌≡◌, ◌<◌, vec_len};
-ghost use Rattle.std.specs.List.{All};
-ghost use Rattle.seat_lock.specs.Known.{IsFree};
+ghost use Rattle.host_tests.specs.Below.{vec_len, All, IsFree};
+ghost use Rattle.std.specs.Prelude.{◌≡◌, ◌<◌};
 
 use class_view::{ClassReader, RuledPane, Told};
 use class_world::Fixed;

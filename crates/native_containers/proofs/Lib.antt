@@ -1,3 +1,5 @@
+pub mod Lemmas
+pub mod Below
 pub mod Payloads
 pub mod Loops
 pub mod Ends

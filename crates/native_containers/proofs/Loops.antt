@@ -1,20 +1,6 @@
 -- Loops over pairs and over keywords, a step at a time.
-use Rattle.std.proofs.Common.{◌≡◌, ℕ, suc, ◌+◌, ◌<◌, ◌≤◌, Bool, true, false, cond, List, length, get_or, drop, sym, ap, ◌∙◌}
-use Rattle.std.proofs.lemmas.List.{drop_all}
-use Rattle.std.proofs.Math.Seq.{drop-cons}
-use Rattle.py_node.specs.declared.refs.PyObjectRef.{PyObjectRef}
-use Rattle.py_node.specs.declared.refs.PyStrInterned.{PyStrInterned}
-use Rattle.py_node.specs.declared.raised.Cause.TheVariants.{TooLong}
-use Rattle.plain_machine.specs.Dicts.{has_place, with_value_in}
-use Rattle.plain_machine.specs.Plain.{PlainWorld, Said, Ends}
-use Rattle.plain_machine.specs.Row.{fault}
-use Rattle.class_world.specs.Held.{Held}
-use Rattle.class_world.specs.Reading.{Reading, bindings}
-use Rattle.class_world.specs.Sound.{IsName, IsNode, Holds, AllHold, of_binding, of_each}
-use Rattle.class_world.proofs.Claims.{each-get}
-use Rattle.class_world.proofs.DictEntries.{get-below}
-use Rattle.native_containers.specs.Say.{ends_none, names_set}
-use Rattle.row_kit.proofs.ContainersLoops.{next}
+use Rattle.native_containers.proofs.Below.{ℕ, suc, Bool, true, false, cond, List, length, get_or, drop, sym, ap, ◌∙◌, drop_all, drop-cons, PyObjectRef, PyStrInterned, TooLong, has_place, with_value_in, PlainWorld, Said, Ends, fault, Held, Reading, bindings, IsName, IsNode, Holds, AllHold, of_binding, of_each, each-get, get-below, ends_none, names_set, next}
+use Rattle.std.proofs.Common.{◌≡◌, ◌+◌, ◌<◌, ◌≤◌}
 
 -- a pair more
 

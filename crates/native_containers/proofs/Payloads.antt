@@ -1,9 +1,6 @@
 -- What objects hold that are of no kind, and entries and nodes one by one.
-use Rattle.std.proofs.Common.{◌≡◌, ℕ, ◌+◌, ◌<◌, ◌≤◌, length, get_or, take, take_all, fold, sym, ap, ◌∙◌}
-use Rattle.std.proofs.lemmas.List.Sums.{fold_more}
-use Rattle.py_node.specs.declared.refs.PyObjectRef.{PyObjectRef}
-use Rattle.plain_machine.specs.Dicts.{Entries, with_entry}
-use Rattle.plain_machine.specs.Plain.{PlainWorld}
+use Rattle.native_containers.proofs.Below.{ℕ, length, get_or, take, take_all, fold, sym, ap, ◌∙◌, fold_more, PyObjectRef, Entries, with_entry, PlainWorld}
+use Rattle.std.proofs.Common.{◌≡◌, ◌+◌, ◌<◌, ◌≤◌}
 
 -- one entry more, where there were some already
 pub entry-more : (w now : PlainWorld) (first es new ps : Entries) (i : ℕ) (d : PyObjectRef × PyObjectRef) → now ≡ w → i < length ps → fold (with_entry w) first (take i ps) ≡ es → new ≡ with_entry now es ((get_or ps i d).0, (get_or ps i d).1) → fold (with_entry w) first (take (i + 1) ps) ≡ new

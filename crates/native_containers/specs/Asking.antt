@@ -1,11 +1,6 @@
 -- What natives of containers take that ask tasks: it is tested before the first, and not again.
-use Rattle.std.specs.Prelude.{List, []}
-use Rattle.py_node.specs.declared.refs.PyObjectRef.{PyObjectRef}
-use Rattle.plain_machine.specs.Plain.{PlainWorld, Bindings}
-use Rattle.plain_machine.specs.Row.{Row}
-use Rattle.row_kit.specs.declared.take_containers.Kind.{Kind}
+use Rattle.native_containers.specs.Below.{List, [], PyObjectRef, PlainWorld, Bindings, Row, Kind, argument, tested_first}
 use Rattle.native_containers.specs.Take.{with_lone, with_own_and, with_own_and_two}
-use Rattle.row_kit.specs.Asking.{argument, tested_first}
 
 -- an object of a kind, alone, or with one argument, or with two
 abbrev pub taking_one : Kind → PlainWorld → List PyObjectRef → Bindings → (PyObjectRef → Row) → Row

@@ -1,3 +1,4 @@
+pub mod Below
 pub mod Take
 pub mod Asking
 pub mod Say

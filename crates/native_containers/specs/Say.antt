@@ -1,28 +1,12 @@
 -- What the natives of tuples, lists, dicts and iterators say that ask no task.
-use Rattle.std.specs.Prelude.{pos, cond, nat_le, is_some, length, fold, List, [], ◌∷◌, ◌++◌, Option, Some, None}
-use Rattle.py_node.specs.declared.refs.PyObjectRef.{PyObjectRef}
-use Rattle.py_node.specs.declared.raised.Cause.TheVariants.{ArgCount, ConcatType, MissingKey, TooLong}
-use Rattle.py_node.specs.declared.entry.TupleNative.{TupleNative}
+use Rattle.native_containers.specs.Below.{pos, cond, nat_le, is_some, length, fold, List, [], Option, Some, None, PyObjectRef, ArgCount, ConcatType, MissingKey, TooLong, TupleNative, ListNative, DictNative, IteratorNative, value_of, Entries, has_place, is_like, with_entry, with_entries, with_value_in, without_value_for, the_list, with_datum, AList, PlainWorld, Bindings, Ended, Said, Ends, value, none, truth, most_items, fault, elsewhere, datum_at, with_node, next_node, number_told, iterator_made, Kind, is_of, items_at, entries_at, tuple_made, list_made, keys_of, values_of, pairs_made}
+use Rattle.std.specs.Prelude.{◌∷◌, ◌++◌}
 use Rattle.py_node.specs.declared.entry.TupleNative.TheVariants as tuple
-use Rattle.py_node.specs.declared.entry.ListNative.{ListNative}
 use Rattle.py_node.specs.declared.entry.ListNative.TheVariants as list
-use Rattle.py_node.specs.declared.entry.DictNative.{DictNative}
 use Rattle.py_node.specs.declared.entry.DictNative.TheVariants as dict
-use Rattle.py_node.specs.declared.entry.IteratorNative.{IteratorNative}
 use Rattle.py_node.specs.declared.entry.IteratorNative.TheVariants as iterator
-use Rattle.py_node.specs.Attributes.{value_of}
-use Rattle.plain_machine.specs.Dicts.{Entries, has_place, is_like, with_entry, with_entries, with_value_in, without_value_for}
-use Rattle.plain_machine.specs.Known.{the_list}
-use Rattle.plain_machine.specs.Objects.{with_datum}
-use Rattle.plain_machine.specs.Plain.{AList, PlainWorld, Bindings, Ended, Said, Ends}
-use Rattle.plain_machine.specs.Row.{value, none, truth, most_items, fault, elsewhere}
-use Rattle.plain_machine.specs.World.{datum_at, with_node, next_node}
-use Rattle.row_kit.specs.Say.{number_told, iterator_made}
-use Rattle.row_kit.specs.declared.take_containers.Kind.{Kind}
 use Rattle.row_kit.specs.declared.take_containers.Kind.TheVariants as kind
-use Rattle.row_kit.specs.TakeContainers.{is_of, items_at, entries_at}
 use Rattle.native_containers.specs.Take.{with_kind, with_own, with_lone, with_own_and, with_own_and_two, with_key, with_dict_and_key, with_default}
-use Rattle.row_kit.specs.GiveContainers.{tuple_made, list_made, keys_of, values_of, pairs_made}
 
 -- a container of more items than most would be too long
 abbrev pub unless_long : {A : Type 0} → PlainWorld → List A → Said → Said

@@ -1,15 +1,7 @@
 -- What the natives of containers take: an object of their kind, and arguments.
-use Rattle.std.specs.Prelude.{cond, is_some, ◌==◌, length, List, [], ◌∷◌}
-use Rattle.py_node.specs.declared.refs.PyObjectRef.{PyObjectRef}
-use Rattle.py_node.specs.declared.raised.Cause.TheVariants.{ArgCount, SelfType, KeyType}
-use Rattle.plain_machine.specs.Plain.{PlainWorld, Bindings, Said, Ends}
-use Rattle.plain_machine.specs.Row.{none, fault}
-use Rattle.plain_machine.specs.Sound.{key_at}
-use Rattle.plain_machine.specs.Takes.{with_one, with_two, with_three}
-use Rattle.plain_machine.specs.World.{datum_at}
-use Rattle.row_kit.specs.declared.take_containers.Kind.{Kind}
+use Rattle.native_containers.specs.Below.{cond, is_some, length, List, [], PyObjectRef, ArgCount, SelfType, KeyType, PlainWorld, Bindings, Said, Ends, none, fault, key_at, with_one, with_two, with_three, datum_at, Kind, is_of}
+use Rattle.std.specs.Prelude.{◌==◌, ◌∷◌}
 use Rattle.row_kit.specs.declared.take_containers.Kind.TheVariants as kind
-use Rattle.row_kit.specs.TakeContainers.{is_of}
 
 -- an argument that must be of a kind
 abbrev pub with_kind : Kind → PlainWorld → PyObjectRef → Said → Said

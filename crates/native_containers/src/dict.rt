@@ -1,18 +1,8 @@
 //! The natives of dicts.
 
-ghost use Rattle.std.specs.Prelude.{◌≡◌, [], is_some, IfOk};
-ghost use Rattle.py_node.specs.declared.built_in.BuiltIn.TheVariants.{Dict};
-ghost use Rattle.py_node.specs.declared.raised.Cause.TheVariants.{MissingKey};
-ghost use Rattle.plain_machine.specs.Dicts.{with_entry};
-ghost use Rattle.plain_machine.specs.Plain.{Ends};
-ghost use Rattle.plain_machine.specs.Row.{fault, truth, value};
-ghost use Rattle.class_world.specs.Claims.{of_args, of_ended};
-ghost use Rattle.class_world.specs.Reading.{Reading, bindings};
-ghost use Rattle.class_world.specs.Sound.{AllHold, AreNodes, Grows, Holding, Holds, IsNode};
-ghost use Rattle.class_world.specs.Rows.{EndsAs, LeavesEnd};
+ghost use Rattle.native_containers.specs.Below.{[], is_some, IfOk, Dict, MissingKey, with_entry, Ends, fault, truth, value, of_args, of_ended, Reading, bindings, AllHold, AreNodes, Grows, Holding, Holds, IsNode, EndsAs, LeavesEnd, keys_of, list_made, pairs_made, values_of, entries_at};
+ghost use Rattle.std.specs.Prelude.{◌≡◌};
 ghost use Rattle.native_containers.specs.Say.{counted, dict_changed, dict_say, dict_updated, ends_none, given_or, key_taken, list_iterated, value_under};
-ghost use Rattle.row_kit.specs.GiveContainers.{keys_of, list_made, pairs_made, values_of};
-ghost use Rattle.row_kit.specs.TakeContainers.{entries_at};
 ghost use Rattle.native_containers.specs.Take.{with_default, with_dict_and_key, with_key, with_lone, with_own, with_own_and, with_own_and_two};
 ghost use Rattle.row_kit.specs.declared.take_containers.Kind.TheVariants as kind;
 

@@ -1,11 +1,7 @@
 //! Dicts with the entries of others.
 
-ghost use Rattle.std.specs.Prelude.{◌≡◌, fold, IfOk};
-ghost use Rattle.plain_machine.specs.Dicts.{with_entry};
-ghost use Rattle.class_world.specs.Keyed.{of_keyed};
-ghost use Rattle.class_world.specs.Reading.{Reading, Reads, plain};
-ghost use Rattle.class_world.specs.Sound.{AllHold, Grows, Holds, IsNode};
-ghost use Rattle.row_kit.specs.TakeContainers.{entries_at};
+ghost use Rattle.native_containers.specs.Below.{fold, IfOk, with_entry, of_keyed, Reading, Reads, plain, AllHold, Grows, Holds, IsNode, entries_at};
+ghost use Rattle.std.specs.Prelude.{◌≡◌};
 
 use class_world::World;
 use py_node::{OutOfMemory, Payload, PyDict, PyObjectRef};

@@ -1,12 +1,7 @@
 //! Dicts that get the entries of other dicts, and keywords.
 
-ghost use Rattle.std.specs.Prelude.{◌≡◌, Err, IfErr, IfOk};
-ghost use Rattle.py_node.specs.declared.built_in.BuiltIn.TheVariants.{Dict};
-ghost use Rattle.plain_machine.specs.Plain.{PlainWorld, Said, Ends};
-ghost use Rattle.class_world.specs.Claims.{of_args};
-ghost use Rattle.class_world.specs.Reading.{Reading, Reads, bindings, plain};
-ghost use Rattle.class_world.specs.Sound.{AllHold, Grows, Holding, Holds, IsName, IsNode, of_binding, of_each};
-ghost use Rattle.class_world.specs.Rows.{EndsAs, LeavesEnd};
+ghost use Rattle.native_containers.specs.Below.{Err, IfErr, IfOk, Dict, PlainWorld, Said, Ends, of_args, Reading, Reads, bindings, plain, AllHold, Grows, Holding, Holds, IsName, IsNode, of_binding, of_each, EndsAs, LeavesEnd};
+ghost use Rattle.std.specs.Prelude.{◌≡◌};
 ghost use Rattle.native_containers.specs.Say.{dict_filled, dict_updated, names_set};
 ghost use Rattle.native_containers.specs.Take.{with_own};
 ghost use Rattle.row_kit.specs.declared.take_containers.Kind.TheVariants as kind;

@@ -1,10 +1,7 @@
 //! The natives of iterators.
 
 ghost use Rattle.std.specs.Prelude.{◌≡◌};
-ghost use Rattle.class_world.specs.Claims.{of_ended};
-ghost use Rattle.class_world.specs.Reading.{Reading, bindings};
-ghost use Rattle.class_world.specs.Sound.{AllHold, AreNodes, Holds};
-ghost use Rattle.class_world.specs.Rows.{EndsAs};
+ghost use Rattle.native_containers.specs.Below.{of_ended, Reading, bindings, AllHold, AreNodes, Holds, EndsAs};
 ghost use Rattle.native_containers.specs.Say.{iterator_say};
 
 use crate::take::lone;

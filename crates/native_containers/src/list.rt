@@ -1,13 +1,9 @@
 //! The natives of lists.
 
-ghost use Rattle.std.specs.Prelude.{◌≡◌, ◌++◌, ◌∷◌, [], IfOk};
+ghost use Rattle.native_containers.specs.Below.{[], IfOk, Reading, bindings, AreNodes, Holding, Holds, IsNode, EndsAs, LeavesEnd, list_made, items_at};
+ghost use Rattle.std.specs.Prelude.{◌≡◌, ◌++◌, ◌∷◌};
 ghost use Rattle.py_node.specs.declared.built_in.BuiltIn.TheVariants.{List};
-ghost use Rattle.class_world.specs.Reading.{Reading, bindings};
-ghost use Rattle.class_world.specs.Sound.{AreNodes, Holding, Holds, IsNode};
-ghost use Rattle.class_world.specs.Rows.{EndsAs, LeavesEnd};
 ghost use Rattle.native_containers.specs.Say.{list_changed, list_say, with_joined};
-ghost use Rattle.row_kit.specs.GiveContainers.{list_made};
-ghost use Rattle.row_kit.specs.TakeContainers.{items_at};
 ghost use Rattle.native_containers.specs.Take.{with_own_and};
 ghost use Rattle.row_kit.specs.declared.take_containers.Kind.TheVariants as kind;
 

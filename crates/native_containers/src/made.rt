@@ -1,13 +1,8 @@
 //! Lists and dicts that change.
 
-ghost use Rattle.std.specs.Prelude.{◌≡◌, IfErr, IfOk, Err};
-ghost use Rattle.py_node.specs.declared.built_in.BuiltIn.TheVariants.{Dict, List};
-ghost use Rattle.plain_machine.specs.Plain.{PlainWorld, Said, Ends};
-ghost use Rattle.class_world.specs.Claims.{of_ended};
-ghost use Rattle.class_world.specs.Keyed.{of_keyed};
-ghost use Rattle.class_world.specs.Reading.{Reading, Reads, plain};
-ghost use Rattle.class_world.specs.Sound.{AllHold, AreNodes, Grows, Holding, Holds, IsNode};
-ghost use Rattle.class_world.specs.Rows.{EndsAs};
+ghost use Rattle.native_containers.specs.Below.{IfErr, IfOk, Err, Dict, PlainWorld, Said, Ends, of_ended, of_keyed, Reading, Reads, plain, AllHold, AreNodes, Grows, Holding, Holds, IsNode, EndsAs};
+ghost use Rattle.std.specs.Prelude.{◌≡◌};
+ghost use Rattle.py_node.specs.declared.built_in.BuiltIn.TheVariants.{List};
 ghost use Rattle.native_containers.specs.Say.{dict_changed, ends_none, list_changed};
 
 use class_world::limits::is_within_limit;

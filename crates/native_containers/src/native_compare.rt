@@ -2,9 +2,8 @@
 //! `resume`.
 #![tactic(auto, using(class_world::proofs::Items::item_holds), unfolding(crate::specs::NativeCompare::Say::compared_job_say))]
 
-ghost use Rattle.std.specs.Prelude.{◌≡◌, IfOk};
-ghost use Rattle.class_world.specs.Claims.{of_args, of_ended, Leaves};
-ghost use Rattle.class_world.specs.Sound.{AllHold};
+ghost use Rattle.native_containers.specs.Below.{IfOk, of_args, of_ended, Leaves, AllHold};
+ghost use Rattle.std.specs.Prelude.{◌≡◌};
 ghost use Rattle.py_node.specs.declared.task.Task.TheVariants as task;
 ghost use Rattle.native_containers.specs.NativeCompare.Rows.{Begins, Resumes, of_compared_kept};
 ghost use Rattle.native_containers.specs.NativeCompare.Say.{compares_items};

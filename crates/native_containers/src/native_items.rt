@@ -2,10 +2,9 @@
 //! iterator. Each is a small automaton: `begin` and `resume`.
 #![tactic(auto, using(class_world::proofs::Items::item_holds), unfolding(crate::specs::NativeItems::Say::item_job_say))]
 
-ghost use Rattle.std.specs.Prelude.{◌≡◌, IfOk};
+ghost use Rattle.native_containers.specs.Below.{IfOk, of_args, of_ended, Leaves, AllHold};
+ghost use Rattle.std.specs.Prelude.{◌≡◌};
 ghost use Rattle.py_node.specs.declared.task.Task.TheVariants as task;
-ghost use Rattle.class_world.specs.Claims.{of_args, of_ended, Leaves};
-ghost use Rattle.class_world.specs.Sound.{AllHold};
 ghost use Rattle.native_containers.specs.NativeItems.Rows.{Begins, Resumes, of_item_kept};
 ghost use Rattle.native_containers.specs.NativeItems.Say.{asks_for_items};
 

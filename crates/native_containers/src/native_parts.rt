@@ -3,9 +3,8 @@
 //! `begin` and `resume`.
 #![tactic(auto, using(class_world::proofs::Items::item_holds), unfolding(crate::specs::NativeParts::Say::parts_job_say))]
 
-ghost use Rattle.std.specs.Prelude.{◌≡◌, IfErr, IfOk, Ok};
-ghost use Rattle.class_world.specs.Claims.{of_args, of_ended, Leaves};
-ghost use Rattle.class_world.specs.Sound.{AllHold};
+ghost use Rattle.native_containers.specs.Below.{IfErr, IfOk, Ok, of_args, of_ended, Leaves, AllHold};
+ghost use Rattle.std.specs.Prelude.{◌≡◌};
 ghost use Rattle.py_node.specs.declared.task.Task.TheVariants as task;
 ghost use Rattle.native_containers.specs.NativeParts.Rows.{Begins, Resumes, of_parts_kept};
 ghost use Rattle.native_containers.specs.NativeParts.Say.{asks_for_parts};

@@ -1,12 +1,7 @@
 //! What these natives take: an object of their kind, alone or with arguments.
 
-ghost use Rattle.std.specs.Prelude.{◌≡◌, [], ◌∷◌, Err, IfErr, IfNone, IfOk, IfSome, Some};
-ghost use Rattle.plain_machine.specs.Plain.{Said, Ends};
-ghost use Rattle.py_node.specs.declared.built_in.BuiltIn.TheVariants.{Dict};
-ghost use Rattle.py_node.specs.declared.refs.PyObjectRef.{PyObjectRef as Object};
-ghost use Rattle.class_world.specs.Reading.{Reading, bindings, plain};
-ghost use Rattle.class_world.specs.Sound.{AreNodes, CanBeKeys, Holding, Holds, IsNode};
-ghost use Rattle.row_kit.specs.TakeContainers.{home_of_kind, is_of};
+ghost use Rattle.native_containers.specs.Below.{[], Err, IfErr, IfNone, IfOk, IfSome, Some, Said, Ends, Dict, PyObjectRef as Object, Reading, bindings, plain, AreNodes, CanBeKeys, Holding, Holds, IsNode, home_of_kind, is_of};
+ghost use Rattle.std.specs.Prelude.{◌≡◌, ◌∷◌};
 ghost use Rattle.native_containers.specs.Take.{with_default, with_dict_and_key, with_key, with_kind, with_own, with_lone, with_own_and, with_own_and_two};
 
 use class_world::takes::{one, three, two};

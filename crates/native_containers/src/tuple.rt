@@ -1,10 +1,7 @@
 //! The natives of tuples.
 
-ghost use Rattle.std.specs.Prelude.{◌≡◌, IfOk};
-ghost use Rattle.class_world.specs.Reading.{Reading, bindings};
-ghost use Rattle.class_world.specs.Sound.{AreNodes, Holds};
-ghost use Rattle.class_world.specs.Rows.{EndsAs, LeavesEnd};
-ghost use Rattle.row_kit.specs.GiveContainers.{tuple_made};
+ghost use Rattle.native_containers.specs.Below.{IfOk, Reading, bindings, AreNodes, Holds, EndsAs, LeavesEnd, tuple_made};
+ghost use Rattle.std.specs.Prelude.{◌≡◌};
 ghost use Rattle.native_containers.specs.Say.{tuple_say, with_joined};
 ghost use Rattle.row_kit.specs.declared.take_containers.Kind.TheVariants as kind;
 

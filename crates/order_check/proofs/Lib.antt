@@ -1,3 +1,5 @@
+pub mod Lemmas
+pub mod Below
 pub mod Merged
 pub mod Single
 pub mod Ordered

@@ -1,9 +1,8 @@
 //! The classes of a table as a hierarchy: all their orders can be found at once, and are those that the table keeps.
 #![tactic(auto)]
 
-ghost use Rattle.std.specs.Prelude.{◌≡◌, ◌<◌, ℕ, true, length, map, option_map, Some, IfOk};
-ghost use Rattle.class_model.specs.Class.{lin, is_class, class_at};
-ghost use Rattle.class_model.specs.Sound.{AreSound};
+ghost use Rattle.order_check.specs.Below.{ℕ, true, length, map, option_map, Some, IfOk, lin, is_class, class_at, AreSound};
+ghost use Rattle.std.specs.Prelude.{◌≡◌, ◌<◌};
 ghost use Rattle.class_table.specs.Keys.{numbers};
 ghost use Rattle.order_check.specs.Hierarchy.{AreKeyed, order_in, all_orders};
 ghost use Rattle.order_check.specs.ClassOrders.Shown.{shown, class_shown};

@@ -1,9 +1,7 @@
 //! The least order of a class, over those of its bases.
 
-ghost use Rattle.std.specs.Prelude.{◌≡◌, ◌∷◌, IfOk, option_map};
-ghost use Rattle.class_model.specs.Order.{least_order};
-ghost use Rattle.class_table.specs.MroMerge.Lists.{numbers, rows as class_rows};
-ghost use Rattle.class_table.specs.MroMerge.Merge.{AreLinesOf, IsApart};
+ghost use Rattle.order_check.specs.Below.{IfOk, option_map, least_order, numbers, rows as class_rows, AreLinesOf, IsApart};
+ghost use Rattle.std.specs.Prelude.{◌≡◌, ◌∷◌};
 ghost use Rattle.order_check.specs.Lists.{rows};
 
 use class_table::mro_merge::MroFault;

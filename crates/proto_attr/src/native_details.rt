@@ -2,9 +2,8 @@
 //! abstract, and the qualified name of a member. Each is a small automaton: `begin` and `resume`.
 #![tactic(auto, using(class_world::proofs::Items::item_holds), unfolding(crate::specs::NativeDetails::Say::detail_job_say))]
 
-ghost use Rattle.std.specs.Prelude.{◌≡◌, IfOk};
-ghost use Rattle.class_world.specs.Claims.{of_args, of_ended, Leaves};
-ghost use Rattle.class_world.specs.Sound.{AllHold};
+ghost use Rattle.proto_attr.specs.Below.{IfOk, of_args, of_ended, Leaves, AllHold};
+ghost use Rattle.std.specs.Prelude.{◌≡◌};
 ghost use Rattle.py_node.specs.declared.task.Task.TheVariants as task;
 ghost use Rattle.proto_attr.specs.NativeDetails.Rows.{Begins, Resumes, of_detail_kept};
 ghost use Rattle.proto_attr.specs.NativeDetails.Say.{asks_for_details};

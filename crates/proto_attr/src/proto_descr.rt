@@ -1,13 +1,8 @@
 //! The rows of descriptors, each a small automaton: `begin` and `resume`.
 #![tactic(auto, unfolding(crate::specs::ProtoDescr::Say::descriptor_say))]
 
-ghost use Rattle.std.specs.Prelude.{◌≡◌, IfOk};
-ghost use Rattle.plain_machine.specs.Plain.{PlainWorld, Told, Ends};
-ghost use Rattle.plain_machine.specs.Row.{done, end, on_done};
-ghost use Rattle.class_world.specs.Held.{Held};
-ghost use Rattle.class_world.specs.Reading.{ended_of};
-ghost use Rattle.class_world.specs.Sound.{AllHold};
-ghost use Rattle.class_world.specs.Claims.{of_descriptor_task, of_ended, Leaves};
+ghost use Rattle.proto_attr.specs.Below.{IfOk, PlainWorld, Told, Ends, done, end, on_done, Held, ended_of, AllHold, of_descriptor_task, of_ended, Leaves};
+ghost use Rattle.std.specs.Prelude.{◌≡◌};
 ghost use Rattle.proto_attr.specs.ProtoDescr.Rows.{Begins, Resumes, of_descriptor_kept};
 
 mod descriptor;

@@ -1,3 +1,4 @@
+pub mod Below
 pub mod Say
 pub mod Rows
 pub mod Bodies

@@ -1,20 +1,7 @@
 -- The natives of `object` that ask no task.
-use Rattle.std.specs.Prelude.{ℕ, false, ◌++◌, codes, Option, Some, None, Result, true, cond, eqb, List, [], ◌∷◌}
-use Rattle.std.specs.Fmt.{digits}
-use Rattle.py_node.specs.declared.raised.Raised.{Raised as Fault}
-use Rattle.py_node.specs.declared.raised.Cause.TheVariants.{QualnameType, ArgCount}
-use Rattle.py_node.specs.Tree.{Text}
-use Rattle.plain_machine.specs.Plain.{PlainWorld, Bindings, Said, Ends}
-use Rattle.plain_machine.specs.ClassText.{name_at}
-use Rattle.plain_machine.specs.Row.{fault, value, truth, not_implemented, elsewhere}
-use Rattle.row_kit.specs.Say.{in_length, number_told, text_made}
-use Rattle.row_kit.specs.ClassNames.{qualname, module_of, in_module}
-use Rattle.std.specs.Int.{w64, cast_signed}
-use Rattle.py_node.specs.declared.refs.PyObjectRef.{PyObjectRef}
-use Rattle.py_node.specs.declared.entry.ObjectNative.{ObjectNative}
+use Rattle.proto_call.specs.Below.{ℕ, false, codes, Option, Some, None, Result, true, cond, eqb, List, [], digits, Raised as Fault, QualnameType, ArgCount, Text, PlainWorld, Bindings, Said, Ends, name_at, fault, value, truth, not_implemented, elsewhere, in_length, number_told, text_made, qualname, module_of, in_module, w64, cast_signed, PyObjectRef, ObjectNative, class_at, with_one, with_two}
+use Rattle.std.specs.Prelude.{◌++◌, ◌∷◌}
 use Rattle.py_node.specs.declared.entry.ObjectNative.TheVariants as object
-use Rattle.plain_machine.specs.World.{class_at}
-use Rattle.plain_machine.specs.Takes.{with_one, with_two}
 
 -- the text of an object without one of its own: its class, whose qualified name must be a text, and its number
 abbrev pub text_from : Option Text → Option Text → Text → ℕ → Result Text Fault

@@ -1,9 +1,8 @@
 //! The call of an object.
 
-ghost use Rattle.std.specs.Prelude.{◌∷◌, IfOk};
+ghost use Rattle.proto_call.specs.Below.{IfOk, AllHold, IsNode, of_args};
+ghost use Rattle.std.specs.Prelude.{◌∷◌};
 ghost use Rattle.py_node.specs.declared.task.CallTask.TheVariants as call;
-ghost use Rattle.class_world.specs.Sound.{AllHold, IsNode};
-ghost use Rattle.class_world.specs.Claims.{of_args};
 ghost use Rattle.proto_call.specs.Rows.{Begins, LeavesNone};
 
 use crate::CallKept;

@@ -1,9 +1,8 @@
 //! The rows of the creation of classes, each a small automaton: `begin` and `resume`.
 #![tactic(auto, unfolding(crate::specs::ClassMake::Say::class_job_say))]
 
-ghost use Rattle.std.specs.Prelude.{◌≡◌, IfOk};
-ghost use Rattle.class_world.specs.Sound.{AllHold};
-ghost use Rattle.class_world.specs.Claims.{of_class_task, of_ended, Leaves};
+ghost use Rattle.proto_call.specs.Below.{IfOk, AllHold, of_class_task, of_ended, Leaves};
+ghost use Rattle.std.specs.Prelude.{◌≡◌};
 ghost use Rattle.proto_call.specs.ClassMake.Rows.{Begins, Resumes, of_class_kept};
 
 mod attributes;

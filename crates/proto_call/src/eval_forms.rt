@@ -1,13 +1,10 @@
 //! The rows of expressions, each a small automaton: `begin` and `resume`.
 #![tactic(auto, unfolding(crate::specs::EvalForms::Say::eval_say))]
 
-ghost use Rattle.std.specs.Prelude.{◌≡◌, ◌≤◌, ◌++◌, [], ◌∷◌, map, length, slice_get, Ok, IfOk, IfErr, OnOk, IfSome};
-ghost use Rattle.class_world.specs.Sound.{AllHold, Holds, IsExpression, IsName, AreNames, IsNode, AreNodes, of_node_ref, of_option};
-ghost use Rattle.class_world.specs.Claims.{of_eval_task, of_ended, of_step, Leaves};
-ghost use Rattle.class_world.specs.Reading.{Reading, Reads};
+ghost use Rattle.proto_call.specs.Below.{[], map, length, slice_get, Ok, IfOk, IfErr, OnOk, IfSome, AllHold, Holds, IsExpression, IsName, AreNames, IsNode, AreNodes, of_node_ref, of_option, of_eval_task, of_ended, of_step, Leaves, Reading, Reads, TConst, literal_of};
+ghost use Rattle.std.specs.Prelude.{◌≡◌, ◌≤◌, ◌++◌, ◌∷◌};
 ghost use Rattle.proto_call.specs.EvalForms.Words.{one_of};
 ghost use Rattle.proto_call.specs.EvalForms.Say.{bind_say, func_say, raise_say, tuple_say, list_say};
-ghost use Rattle.py_node.specs.Tree.{TConst, literal_of};
 ghost use Rattle.proto_call.specs.EvalForms.Rows.{Begins, Resumes, Continues, ContinuesTree, EndsRow, IsOwn, HasValues, IsOther, of_eval_kept, operands, operands_at};
 
 mod attr;

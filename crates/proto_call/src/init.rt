@@ -1,9 +1,8 @@
 //! The initialisation of an object.
 
-ghost use Rattle.std.specs.Prelude.{◌≡◌, ◌∷◌, Ok, IfOk};
+ghost use Rattle.proto_call.specs.Below.{Ok, IfOk, AllHold, Holds, IsNode, of_args};
+ghost use Rattle.std.specs.Prelude.{◌≡◌, ◌∷◌};
 ghost use Rattle.py_node.specs.declared.task.CallTask.TheVariants as call;
-ghost use Rattle.class_world.specs.Sound.{AllHold, Holds, IsNode};
-ghost use Rattle.class_world.specs.Claims.{of_args};
 ghost use Rattle.proto_call.specs.Rows.{Begins, Resumes, OpensNone, LeavesNone};
 
 use crate::CallKept;

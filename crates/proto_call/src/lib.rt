@@ -3,9 +3,7 @@
 //! At the root: the rows of calls, each a small automaton: `begin` and `resume`.
 #![tactic(auto, unfolding(crate::specs::Say::call_job_say))]
 
-ghost use Rattle.std.specs.Prelude.{IfOk};
-ghost use Rattle.class_world.specs.Sound.{AllHold};
-ghost use Rattle.class_world.specs.Claims.{of_call_task, of_ended, LeavesOpen};
+ghost use Rattle.proto_call.specs.Below.{IfOk, AllHold, of_call_task, of_ended, LeavesOpen};
 ghost use Rattle.proto_call.specs.Rows.{Begins, Resumes, of_call_kept, bodies_of};
 
 use crate::body::begin_body;

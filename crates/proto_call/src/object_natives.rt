@@ -1,16 +1,9 @@
 //! The natives of `object` that ask no task.
 #![tactic(auto, using(class_world::proofs::Items::item_holds))]
 
-ghost use Rattle.std.specs.Prelude.{◌≡◌, ◌++◌, codes, false, Err, IfErr, IfOk, string_bytes};
-ghost use Rattle.std.specs.Fmt.{digits};
-ghost use Rattle.class_world.specs.Reading.{Reading, Reads, plain, bindings};
-ghost use Rattle.class_world.specs.Sound.{IsClass, Holds, AllHold, AreNodes};
-ghost use Rattle.row_kit.specs.Say.{in_length};
-ghost use Rattle.row_kit.specs.ClassNames.{in_module, module_of, qualname};
+ghost use Rattle.proto_call.specs.Below.{codes, false, Err, IfErr, IfOk, string_bytes, digits, Reading, Reads, plain, bindings, IsClass, Holds, AllHold, AreNodes, in_length, in_module, module_of, qualname, of_ended, Held, EndsAs, LeavesEnd};
+ghost use Rattle.std.specs.Prelude.{◌≡◌, ◌++◌};
 ghost use Rattle.proto_call.specs.ObjectNatives.{object_text, object_native_say, object_repr, object_hash, object_eq, says_nothing, object_subclass_hook};
-ghost use Rattle.class_world.specs.Claims.{of_ended};
-ghost use Rattle.class_world.specs.Held.{Held};
-ghost use Rattle.class_world.specs.Rows.{EndsAs, LeavesEnd};
 
 use class_world::takes::{one, two};
 use class_world::{Fixed, World};

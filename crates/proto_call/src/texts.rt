@@ -1,11 +1,7 @@
 //! The natives of `object` on its text and its attributes' names, and on whether two objects are not equal.
 
-ghost use Rattle.std.specs.Prelude.{Ok};
+ghost use Rattle.proto_call.specs.Below.{Ok, bindings, of_ended, AllHold, AreNodes, Holds, IsNode, is_not_implemented};
 ghost use Rattle.py_node.specs.declared.entry.ObjectNative.TheVariants as object;
-ghost use Rattle.class_world.specs.Reading.{bindings};
-ghost use Rattle.class_world.specs.Claims.{of_ended};
-ghost use Rattle.class_world.specs.Sound.{AllHold, AreNodes, Holds, IsNode};
-ghost use Rattle.plain_machine.specs.Row.{is_not_implemented};
 ghost use Rattle.proto_call.specs.Say.{object_dir, object_format, object_ne, object_str};
 ghost use Rattle.proto_call.specs.Rows.{Does, OpensNone, Resumes};
 

@@ -1,3 +1,5 @@
+pub mod Lemmas
+pub mod Below
 pub mod InTurn
 pub mod ByWay
 pub mod Named

@@ -1,3 +1,4 @@
+pub mod Below
 pub mod Texts
 pub mod Classes
 pub mod Say

@@ -5,9 +5,8 @@
 //! class.
 #![tactic(auto, unfolding(crate::specs::Say::object_job_say))]
 
-ghost use Rattle.std.specs.Prelude.{◌≡◌, IfOk};
-ghost use Rattle.class_world.specs.Sound.{AllHold};
-ghost use Rattle.class_world.specs.Claims.{of_object_task, of_ended, Leaves};
+ghost use Rattle.proto_object.specs.Below.{IfOk, AllHold, of_object_task, of_ended, Leaves};
+ghost use Rattle.std.specs.Prelude.{◌≡◌};
 ghost use Rattle.proto_object.specs.Rows.{Begins, Resumes, of_object_kept};
 
 mod asked;

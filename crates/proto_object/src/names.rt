@@ -1,14 +1,9 @@
 //! The names of an object's attributes.
 #![tactic(auto, unfolding(crate::specs::Say::object_job_say, py_node::specs::BuiltIns::place_of))]
 
-ghost use Rattle.std.specs.Prelude.{◌≡◌, ◌++◌, [], IfOk};
+ghost use Rattle.proto_object.specs.Below.{[], IfOk, dict_of, Leaves, Reading, Reads, bindings, plain, EndsAs, LeavesEnd, AllHold, AreNodes, Holds, IsNode, of_binding, of_each, keyed};
+ghost use Rattle.std.specs.Prelude.{◌≡◌, ◌++◌};
 ghost use Rattle.py_node.specs.declared.protocol.ObjectTask.TheVariants as object;
-ghost use Rattle.plain_machine.specs.Dicts.{dict_of};
-ghost use Rattle.class_world.specs.Claims.{Leaves};
-ghost use Rattle.class_world.specs.Reading.{Reading, Reads, bindings, plain};
-ghost use Rattle.class_world.specs.Rows.{EndsAs, LeavesEnd};
-ghost use Rattle.class_world.specs.Sound.{AllHold, AreNodes, Holds, IsNode, of_binding, of_each};
-ghost use Rattle.row_kit.specs.ClassAttributes.{keyed};
 ghost use Rattle.proto_object.specs.Texts.{has_name, names_made, other_keys, own_keys};
 ghost use Rattle.proto_object.specs.Rows.{Begins, of_object_kept};
 

@@ -1,9 +1,8 @@
 //! The rows of items, slices and of a mapping's keys, values and items, each a small automaton: `begin` and `resume`.
 #![tactic(auto, unfolding(crate::specs::ProtoItems::Say::items_job_say))]
 
-ghost use Rattle.std.specs.Prelude.{◌≡◌, IfOk};
-ghost use Rattle.class_world.specs.Claims.{of_ended, of_protocol_task, Leaves};
-ghost use Rattle.class_world.specs.Sound.{AllHold};
+ghost use Rattle.proto_object.specs.Below.{IfOk, of_ended, of_protocol_task, Leaves, AllHold};
+ghost use Rattle.std.specs.Prelude.{◌≡◌};
 ghost use Rattle.proto_object.specs.ProtoItems.Rows.{Begins, Resumes, of_items_kept};
 
 mod items;

@@ -1,9 +1,8 @@
 //! The rows of iterations, each a small automaton: `begin` and `resume`.
 #![tactic(auto, unfolding(crate::specs::ProtoIter::Say::iter_job_say))]
 
-ghost use Rattle.std.specs.Prelude.{◌≡◌, IfOk};
-ghost use Rattle.class_world.specs.Claims.{of_ended, of_protocol_task, Leaves};
-ghost use Rattle.class_world.specs.Sound.{AllHold};
+ghost use Rattle.proto_object.specs.Below.{IfOk, of_ended, of_protocol_task, Leaves, AllHold};
+ghost use Rattle.std.specs.Prelude.{◌≡◌};
 ghost use Rattle.proto_object.specs.ProtoIter.Rows.{Begins, Resumes, of_iter_kept};
 
 mod contain;

@@ -2,9 +2,8 @@
 //! and `resume`.
 #![tactic(auto, unfolding(crate::specs::ProtoNumber::Say::number_job_say))]
 
-ghost use Rattle.std.specs.Prelude.{◌≡◌, IfOk};
-ghost use Rattle.class_world.specs.Sound.{AllHold};
-ghost use Rattle.class_world.specs.Claims.{of_protocol_task, of_ended, Leaves};
+ghost use Rattle.proto_object.specs.Below.{IfOk, AllHold, of_protocol_task, of_ended, Leaves};
+ghost use Rattle.std.specs.Prelude.{◌≡◌};
 ghost use Rattle.proto_object.specs.ProtoNumber.Rows.{Begins, Resumes, of_number_kept};
 
 mod asked;

@@ -1,14 +1,9 @@
 //! An object's hash, and its texts.
 #![tactic(auto, unfolding(crate::specs::Say::object_job_say, py_node::specs::BuiltIns::place_of))]
 
-ghost use Rattle.std.specs.Prelude.{◌≡◌, [], IfOk};
+ghost use Rattle.proto_object.specs.Below.{[], IfOk, of_ended, of_step, Leaves, Reading, ended_of, plain, AllHold, Holds, IsNode, Ends, datum_at, text_of};
+ghost use Rattle.std.specs.Prelude.{◌≡◌};
 ghost use Rattle.py_node.specs.declared.protocol.ObjectTask.TheVariants as object;
-ghost use Rattle.class_world.specs.Claims.{of_ended, of_step, Leaves};
-ghost use Rattle.class_world.specs.Reading.{Reading, ended_of, plain};
-ghost use Rattle.class_world.specs.Sound.{AllHold, Holds, IsNode};
-ghost use Rattle.plain_machine.specs.Plain.{Ends};
-ghost use Rattle.plain_machine.specs.World.{datum_at};
-ghost use Rattle.row_kit.specs.TakeTexts.{text_of};
 ghost use Rattle.proto_object.specs.Texts.{hash_entry, hash_rest, is_none, is_unspecified, text_only};
 ghost use Rattle.proto_object.specs.Rows.{Begins, of_object_kept};
 

@@ -2,15 +2,9 @@
 //! class may say so, and a tuple stands for each of its objects.
 #![tactic(auto, unfolding(crate::specs::Say::object_job_say, py_node::specs::BuiltIns::place_of))]
 
-ghost use Rattle.std.specs.Prelude.{◌≡◌, ◌&&◌, eqb, IfOk};
+ghost use Rattle.proto_object.specs.Below.{eqb, IfOk, the_type, datum_at, of_ended, of_step, Leaves, Reading, Reads, plain, AllHold, AreNodes, Holds, IsNode, items_at, is_exactly};
+ghost use Rattle.std.specs.Prelude.{◌≡◌, ◌&&◌};
 ghost use Rattle.py_node.specs.declared.protocol.ObjectTask.TheVariants as object;
-ghost use Rattle.plain_machine.specs.Known.{the_type};
-ghost use Rattle.plain_machine.specs.World.{datum_at};
-ghost use Rattle.class_world.specs.Claims.{of_ended, of_step, Leaves};
-ghost use Rattle.class_world.specs.Reading.{Reading, Reads, plain};
-ghost use Rattle.class_world.specs.Sound.{AllHold, AreNodes, Holds, IsNode};
-ghost use Rattle.row_kit.specs.TakeContainers.{items_at};
-ghost use Rattle.row_kit.specs.ProtoBase.Entered.{is_exactly};
 ghost use Rattle.proto_object.specs.Classes.{is_tuple, way_of};
 ghost use Rattle.proto_object.specs.Rows.{Begins, Resumes, of_object_kept, way_number};
 

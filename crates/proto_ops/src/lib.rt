@@ -3,11 +3,8 @@
 //! At the root: the rows of operators, each a small automaton: `begin` and `resume`.
 #![tactic(auto, unfolding(crate::specs::Say::operator_say))]
 
-ghost use Rattle.std.specs.Prelude.{◌≡◌, IfOk};
-ghost use Rattle.class_world.specs.Sound.{AllHold};
-ghost use Rattle.class_world.specs.Claims.{of_operator_task, of_ended, of_step, Leaves};
-ghost use Rattle.class_world.specs.Reading.{ended_of};
-ghost use Rattle.plain_machine.specs.Row.{is_not_implemented};
+ghost use Rattle.proto_ops.specs.Below.{IfOk, AllHold, of_operator_task, of_ended, of_step, Leaves, ended_of, is_not_implemented};
+ghost use Rattle.std.specs.Prelude.{◌≡◌};
 ghost use Rattle.proto_ops.specs.Rows.{Begins, Resumes, GoesOn, is_unserved, of_operator_kept, of_otherwise};
 
 mod binary;

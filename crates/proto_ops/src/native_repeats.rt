@@ -2,9 +2,8 @@
 //! object stands for first, and is a small automaton: `begin` and `resume`.
 #![tactic(auto, using(class_world::proofs::Items::item_holds), unfolding(crate::specs::NativeRepeats::Say::repeat_job_say))]
 
-ghost use Rattle.std.specs.Prelude.{◌≡◌, Some, IfOk};
-ghost use Rattle.class_world.specs.Claims.{of_args, of_ended, of_step, Leaves};
-ghost use Rattle.class_world.specs.Sound.{AllHold, AreNodes, Holds};
+ghost use Rattle.proto_ops.specs.Below.{Some, IfOk, of_args, of_ended, of_step, Leaves, AllHold, AreNodes, Holds};
+ghost use Rattle.std.specs.Prelude.{◌≡◌};
 ghost use Rattle.py_node.specs.declared.task.Task.TheVariants as task;
 ghost use Rattle.proto_ops.specs.NativeRepeats.Rows.{Begins, Enters, Resumes, of_repeat_kept};
 ghost use Rattle.proto_ops.specs.NativeRepeats.Say.{kind_of, repeats};

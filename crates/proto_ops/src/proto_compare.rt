@@ -1,9 +1,8 @@
 //! The rows of comparisons, each a small automaton: `begin` and `resume`.
 #![tactic(auto, unfolding(crate::specs::ProtoCompare::Say::compare_job_say))]
 
-ghost use Rattle.std.specs.Prelude.{◌≡◌, IfOk};
-ghost use Rattle.class_world.specs.Sound.{AllHold};
-ghost use Rattle.class_world.specs.Claims.{of_compare_task, of_ended, Leaves};
+ghost use Rattle.proto_ops.specs.Below.{IfOk, AllHold, of_compare_task, of_ended, Leaves};
+ghost use Rattle.std.specs.Prelude.{◌≡◌};
 ghost use Rattle.proto_ops.specs.ProtoCompare.Rows.{Begins, Resumes, of_compare_kept};
 
 pub mod comparisons;

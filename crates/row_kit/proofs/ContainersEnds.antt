@@ -1,14 +1,6 @@
 -- How natives end, by what was called before.
-use Rattle.std.proofs.Common.{◌≡◌, ◌∙◌}
-use Rattle.std.specs.Prelude.{Result, IfOk}
-use Rattle.py_node.specs.declared.memory.OutOfMemory.{OutOfMemory}
-use Rattle.py_node.specs.declared.raised.Raised.{Raised as Fault}
-use Rattle.py_node.specs.declared.task.Answer.{Answer}
-use Rattle.plain_machine.specs.Plain.{PlainWorld, Said}
-use Rattle.class_world.specs.declared.world.World.{World}
-use Rattle.class_world.specs.Reading.{Reading, Reads, plain}
-use Rattle.class_world.specs.Rows.{EndsAs}
-use Rattle.class_world.proofs.Stored.{ok-map}
+use Rattle.row_kit.proofs.Below.{◌∙◌, Result, IfOk, OutOfMemory, Raised as Fault, Answer, PlainWorld, Said, World, Reading, Reads, plain, EndsAs, ok-map}
+use Rattle.std.proofs.Common.{◌≡◌}
 
 abbrev pub Saying : Type 0
 Saying = Reading → PlainWorld → Said

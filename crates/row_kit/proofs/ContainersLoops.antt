@@ -1,13 +1,6 @@
 -- Loops over pairs and over keywords, a step at a time.
-use Rattle.std.proofs.Common.{◌≡◌, ℕ, suc, ◌+◌, ◌<◌, ◌≤◌, List, [], ◌∷◌, ◌++◌, length, get_or, drop, sym, ap, ◌∙◌, arith}
-use Rattle.std.proofs.lemmas.List.{drop_all}
-use Rattle.std.proofs.Math.Seq.{drop-cons}
-use Rattle.py_node.specs.declared.refs.PyObjectRef.{PyObjectRef}
-use Rattle.plain_machine.specs.Dicts.{Entries}
-use Rattle.plain_machine.specs.Known.{the_tuple}
-use Rattle.plain_machine.specs.Plain.{ATuple, PlainWorld}
-use Rattle.plain_machine.specs.World.{with_node, next_node}
-use Rattle.row_kit.specs.GiveContainers.{list_made, pairs_made}
+use Rattle.row_kit.proofs.Below.{ℕ, suc, List, [], length, get_or, drop, sym, ap, ◌∙◌, arith, drop_all, drop-cons, PyObjectRef, Entries, the_tuple, ATuple, PlainWorld, with_node, next_node, list_made, pairs_made}
+use Rattle.std.proofs.Common.{◌≡◌, ◌+◌, ◌<◌, ◌≤◌, ◌∷◌, ◌++◌}
 
 pub next : (i : ℕ) → suc i ≡ i + 1
 next i = omega arith

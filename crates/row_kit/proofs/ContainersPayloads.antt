@@ -1,14 +1,7 @@
 -- What objects hold that are of no kind, and entries and nodes one by one.
-use Rattle.std.proofs.Common.{◌≡◌, ◌+◌, ◌<◌, List, [], ◌++◌, length, Some, refl}
-use Rattle.std.proofs.lemmas.List.Elements.{All-append}
-use Rattle.py_node.specs.declared.refs.PyObjectRef.{PyObjectRef}
-use Rattle.py_node.specs.declared.payload.Payload.{Payload}
+use Rattle.row_kit.proofs.Below.{List, [], length, Some, refl, All-append, PyObjectRef, Payload, entries_in, Held, Reading, datum, AreNodes, Holds, items_in}
+use Rattle.std.proofs.Common.{◌≡◌, ◌+◌, ◌<◌, ◌++◌}
 use Rattle.py_node.specs.declared.payload.Payload.TheVariants as payload
-use Rattle.plain_machine.specs.Dicts.{entries_in}
-use Rattle.class_world.specs.Held.{Held}
-use Rattle.class_world.specs.Reading.{Reading, datum}
-use Rattle.class_world.specs.Sound.{AreNodes, Holds}
-use Rattle.class_world.specs.Listed.{items_in}
 
 -- what is no dict has no entries
 pub no-entries : (t : Reading) (p : Payload) → ((es : _) → p ≡ payload.Dict es → ⊥) → entries_in (Some (datum t p)) ≡ []

@@ -1,12 +1,6 @@
 -- Whole numbers of at most 128 bits.
-use Rattle.std.proofs.Common.{◌≡◌, ◌<◌, ◌^◌, Bool, true, false, refl, sym, subst, arith, nat_lt, T}
-use Rattle.std.specs.Prelude.{ℤ, pos, negsuc}
-use Rattle.std.specs.Int.{w128}
-use Rattle.std.specs.Int.RustNames.{FitsSigned}
-use Rattle.std.proofs.lemmas.Bool.{lt-ltb}
-use Rattle.std.proofs.lemmas.Int.{ints}
-use Rattle.std.proofs.Math.Facts.{sfits_lit}
-use Rattle.plain_machine.specs.Row.{fits}
+use Rattle.row_kit.proofs.Below.{Bool, true, false, refl, sym, subst, arith, nat_lt, T, ℤ, pos, negsuc, w128, FitsSigned, lt-ltb, ints, sfits_lit, fits}
+use Rattle.std.proofs.Common.{◌≡◌, ◌<◌, ◌^◌}
 
 pub fits-true : (z : ℤ) → FitsSigned w128 z → fits z ≡ true
 fits-true (pos n) h = let l : n < 2 ^ 127 = omega (arith, ints) in lt-ltb n (2 ^ 127) l

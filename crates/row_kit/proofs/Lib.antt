@@ -1,3 +1,5 @@
+pub mod Lemmas
+pub mod Below
 pub mod Ended
 pub mod Fits
 pub mod Made

@@ -1,16 +1,6 @@
 -- A native that makes an object ends with it.
-use Rattle.std.proofs.Common.{◌≡◌, ℕ, Ok, sym, ap, ◌∙◌}
-use Rattle.std.specs.Prelude.{ℤ, Result}
-use Rattle.py_node.specs.declared.raised.Raised.{Raised as Fault}
-use Rattle.py_node.specs.declared.refs.PyObjectRef.{PyObjectRef}
-use Rattle.py_node.specs.declared.task.Answer.TheVariants.{Value}
-use Rattle.plain_machine.specs.Plain.{Datum, ANumber, PlainWorld, Said, Ends}
-use Rattle.plain_machine.specs.World.{with_node, next_node}
-use Rattle.plain_machine.specs.Row.{value}
-use Rattle.class_world.specs.declared.world.World.{World}
-use Rattle.class_world.specs.Reading.{Reading, Reads, plain}
-use Rattle.class_world.specs.Rows.{EndsAs}
-use Rattle.row_kit.specs.Say.{int_made}
+use Rattle.row_kit.proofs.Below.{ℕ, Ok, sym, ap, ◌∙◌, ℤ, Result, Raised as Fault, PyObjectRef, Value, Datum, ANumber, PlainWorld, Said, Ends, with_node, next_node, value, World, Reading, Reads, plain, EndsAs, int_made}
+use Rattle.std.proofs.Common.{◌≡◌}
 
 -- what is said of a new object is so where it was made
 pub made-ends : (said : Reading → PlainWorld → Said) (w new : World) (c : ℕ) (d : Datum) (r : PyObjectRef) → ((t : Reading) → said t (plain t w) ≡ Ends (with_node (plain t w) c d) (value (next_node (plain t w) c))) → ((t : Reading) → plain t new ≡ with_node (plain t w) c d) → ((t : Reading) → r ≡ next_node (plain t w) c) → ((t : Reading) → Reads t new → Reads t w) → EndsAs said w new (Ok (Value r))

@@ -1,13 +1,6 @@
 -- How a native ends that reads something first.
-use Rattle.std.proofs.Common.{◌≡◌, Ok, Err, IfOk, ◌∙◌}
-use Rattle.std.specs.Prelude.{Result}
-use Rattle.py_node.specs.declared.memory.OutOfMemory.{OutOfMemory}
-use Rattle.py_node.specs.declared.raised.Raised.{Raised as Fault}
-use Rattle.py_node.specs.declared.task.Answer.{Answer}
-use Rattle.plain_machine.specs.Plain.{PlainWorld, Said}
-use Rattle.class_world.specs.declared.world.World.{World}
-use Rattle.class_world.specs.Reading.{Reading, Reads, plain}
-use Rattle.class_world.specs.Rows.{EndsAs}
+use Rattle.row_kit.proofs.Below.{Ok, Err, ◌∙◌, Result, OutOfMemory, Raised as Fault, Answer, PlainWorld, Said, World, Reading, Reads, plain, EndsAs}
+use Rattle.std.proofs.Common.{◌≡◌, IfOk}
 
 -- what is said is said by what was read
 pub ends-read : (said other : Reading → PlainWorld → Said) (old new : World) (r : Result Answer Fault) → ((t : Reading) → Reads t old → said t (plain t old) ≡ other t (plain t old)) → EndsAs other old new r → EndsAs said old new r

@@ -1,25 +1,7 @@
 -- New texts for names: no two of them are alike.
-use Rattle.std.proofs.Common.{◌≡◌, ℕ, zero, suc, ◌+◌, ◌⊎◌, Bool, true, false, List, [], ◌∷◌, ◌++◌, length, drop, map, Option, Some, None, inl, inr, refl, sym, ap, ◌∙◌, subst, length-append, true≢false}
-use Rattle.std.specs.Prelude.{slice_get, cond, is_some, option_map, option_and_then}
-use Rattle.std.specs.List.{IsDistinct, AllByRecursion}
-use Rattle.std.proofs.lemmas.Bool.{eqb-true, eq-eqb}
-use Rattle.py_node.specs.declared.refs.PyObjectRef.{PyObjectRef}
-use Rattle.py_node.specs.declared.refs.PyStrInterned.{PyStrInterned}
-use Rattle.py_node.specs.Attributes.{is_same_name, AreNamesDistinct}
-use Rattle.std.specs.Map.{keys_of}
-use Rattle.py_node.specs.Tree.{Text}
-use Rattle.plain_machine.specs.Plain.{Datum, AText, ADict, no_members, Node, PlainWorld}
-use Rattle.plain_machine.specs.World.{ref, is_text, datum_at, has_dict, push_node, with_node, next_node}
-use Rattle.plain_machine.specs.Known.{the_dict, the_str}
-use Rattle.plain_machine.specs.Sound.{TextKey, key_of, key_at}
-use Rattle.class_world.specs.Held.{Held}
-use Rattle.class_world.specs.Reading.{Reading, bindings, plain}
-use Rattle.class_world.specs.Sound.{AllHold, AreNodes, Grows, Holds, IsName, IsNode, KeysDiffer, of_binding, of_each}
-use Rattle.class_world.proofs.Claims.{each-get, get-end, more-nodes}
-use Rattle.class_world.proofs.Stored.{map-push}
-use Rattle.row_kit.specs.ClassAttributes.{keyed}
-use Rattle.class_world.proofs.SoundWorld.{keys-stored}
-use Rattle.plain_machine.specs.Dicts.{Entries}
+use Rattle.row_kit.proofs.Below.{ℕ, zero, suc, Bool, true, false, List, [], length, drop, map, Option, Some, None, inl, inr, refl, sym, ap, ◌∙◌, subst, length-append, true≢false, slice_get, is_some, option_map, option_and_then, IsDistinct, AllByRecursion, eqb-true, eq-eqb, PyObjectRef, PyStrInterned, is_same_name, AreNamesDistinct, keys_of, Text, Datum, AText, ADict, no_members, Node, PlainWorld, ref, is_text, datum_at, has_dict, push_node, with_node, next_node, the_dict, the_str, TextKey, key_of, key_at, Held, Reading, bindings, plain, AllHold, AreNodes, Grows, Holds, IsName, IsNode, KeysDiffer, of_binding, of_each, each-get, get-end, more-nodes, map-push, keyed, keys-stored, Entries}
+use Rattle.std.proofs.Common.{◌≡◌, ◌+◌, ◌⊎◌, ◌∷◌, ◌++◌}
+use Rattle.std.specs.Prelude.{cond}
 
 -- keys and values are objects
 abbrev pub ArePairs : Held → Entries → Type 0

@@ -1,9 +1,6 @@
 -- The objects that stand for classes.
-use Rattle.std.proofs.Common.{◌≡◌, ℕ, zero, suc, ◌+◌, ◌<◌, ◌≤◌, List, [], ◌∷◌, ◌++◌, length, get_or, map, take, inl, inr, refl, ap, arith}
-use Rattle.py_node.specs.declared.refs.PyTypeRef.{PyTypeRef}
-use Rattle.class_model.specs.Order.{Includes}
-use Rattle.class_table.specs.Keys.{numbers}
-use Rattle.plain_machine.specs.World.{ref}
+use Rattle.row_kit.proofs.Below.{ℕ, zero, suc, List, [], length, get_or, map, take, inl, inr, refl, ap, arith, PyTypeRef, Includes, numbers, ref}
+use Rattle.std.proofs.Common.{◌≡◌, ◌+◌, ◌<◌, ◌≤◌, ◌∷◌, ◌++◌}
 
 -- all
 pub nodes-end : (cs : List PyTypeRef) (i : ℕ) → length cs ≤ i → map (λ c. ref c.0) (take i cs) ≡ map ref (numbers cs)

@@ -1,11 +1,6 @@
 -- What a class is itself given under a name.
-use Rattle.std.proofs.Common.{◌≡◌, ℕ, false, cond, Option, Some, None, sym, ap, ◌∙◌}
-use Rattle.py_node.specs.declared.refs.PyObjectRef.{PyObjectRef}
-use Rattle.py_node.specs.Tree.{Text}
-use Rattle.class_model.specs.Class.{class_at as class_numbered, own_of}
-use Rattle.plain_machine.specs.Plain.{PlainWorld}
-use Rattle.plain_machine.specs.World.{datum_at, is_text}
-use Rattle.row_kit.specs.ClassNames.{given, is_getset, unless_getset}
+use Rattle.row_kit.proofs.Below.{ℕ, false, cond, Option, Some, None, sym, ap, ◌∙◌, PyObjectRef, Text, class_at as class_numbered, own_of, PlainWorld, datum_at, is_text, given, is_getset, unless_getset}
+use Rattle.std.proofs.Common.{◌≡◌}
 
 pub given-some : (w : PlainWorld) (c : ℕ) (x y : Text) (o : Option PyObjectRef) (v : PyObjectRef) → y ≡ x → own_of (λ k. is_text k y) (class_numbered w.classes c) ≡ o → o ≡ Some v → is_getset (datum_at w v) ≡ false → given w c x ≡ Some v
 given-some w c x y o v e f g h =

@@ -1,8 +1,6 @@
 -- How natives are written that ask tasks: what they take is tested before the first, and not again.
-use Rattle.std.specs.Prelude.{ℕ, List, [], ◌∷◌, slice_index_or}
-use Rattle.py_node.specs.declared.refs.PyObjectRef.{PyObjectRef}
-use Rattle.plain_machine.specs.Plain.{Ended, Answered, ReadObjects, Said}
-use Rattle.plain_machine.specs.Row.{Row, none}
+use Rattle.row_kit.specs.Below.{ℕ, List, [], slice_index_or, PyObjectRef, Ended, Answered, ReadObjects, Said, Row, none}
+use Rattle.std.specs.Prelude.{◌∷◌}
 
 -- ends as this does, whatever was learnt
 abbrev pub as_said : Said → Row

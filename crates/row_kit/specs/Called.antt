@@ -1,13 +1,9 @@
 -- What is asked where an object is called by a native that is for its kind.
-use Rattle.std.specs.Prelude.{List, ◌∷◌, Option, Some, None}
-use Rattle.py_node.specs.declared.refs.PyObjectRef.{PyObjectRef}
+use Rattle.row_kit.specs.Below.{List, Option, Some, None, PyObjectRef, NativeEntry, OfCallable, OfType, OfWrapper, Datum, AClass, AMethod, ANativeFunction, ABuiltinMethod, AMethodDescriptor, AStaticMethod, Bindings, DoCall, DoBody, DoTypeCall, PlainTask, ToCall, native_task}
+use Rattle.std.specs.Prelude.{◌∷◌}
 use Rattle.py_node.specs.declared.entry.CallableNative.TheVariants as callable
 use Rattle.py_node.specs.declared.entry.TypeNative.TheVariants as type
 use Rattle.py_node.specs.declared.entry.WrapperNative.TheVariants as wrapper
-use Rattle.py_node.specs.declared.entry.NativeEntry.{NativeEntry}
-use Rattle.py_node.specs.declared.entry.NativeEntry.TheVariants.{OfCallable, OfType, OfWrapper}
-use Rattle.plain_machine.specs.Plain.{Datum, AClass, AMethod, ANativeFunction, ABuiltinMethod, AMethodDescriptor, AStaticMethod, Bindings, DoCall, DoBody, DoTypeCall, PlainTask, ToCall}
-use Rattle.plain_machine.specs.Native.{native_task}
 
 abbrev pub with_self : Option PyObjectRef → List PyObjectRef → List PyObjectRef
 with_self None args = args

@@ -1,9 +1,6 @@
 -- The names of attributes as new texts, with their values.
-use Rattle.std.specs.Prelude.{[], ◌∷◌, ◌++◌, Option, Some, None}
-use Rattle.plain_machine.specs.Plain.{AText, PlainWorld, Bindings}
-use Rattle.plain_machine.specs.World.{with_node, next_node}
-use Rattle.plain_machine.specs.Known.{the_str}
-use Rattle.plain_machine.specs.Dicts.{Entries}
+use Rattle.row_kit.specs.Below.{[], Option, Some, None, AText, PlainWorld, Bindings, with_node, next_node, the_str, Entries}
+use Rattle.std.specs.Prelude.{◌∷◌, ◌++◌}
 
 -- a new text for each name, in order, with its value
 abbrev pub keyed : PlainWorld → Entries → Bindings → PlainWorld × Entries

@@ -1,13 +1,8 @@
 -- What classes are called, in their modules.
-use Rattle.std.specs.Prelude.{ℕ, Bool, true, false, cond, ◌++◌, codes, Option, Some, None, List, []}
-use Rattle.py_node.specs.declared.refs.PyObjectRef.{PyObjectRef}
+use Rattle.row_kit.specs.Below.{ℕ, Bool, true, false, cond, codes, Option, Some, None, List, [], PyObjectRef, known_text, Text, own_of, Datum, AGetSet, AText, PlainWorld, datum_at, is_text, name_at}
+use Rattle.std.specs.Prelude.{◌++◌}
 use Rattle.py_node.specs.declared.known.Known.TheVariants as known
-use Rattle.py_node.specs.Known.{known_text}
-use Rattle.py_node.specs.Tree.{Text}
-use Rattle.class_model.specs.Class.{class_at as class_numbered, own_of}
-use Rattle.plain_machine.specs.Plain.{Datum, AGetSet, AText, PlainWorld}
-use Rattle.plain_machine.specs.World.{datum_at, is_text}
-use Rattle.plain_machine.specs.ClassText.{name_at}
+use Rattle.class_model.specs.Class.{class_at as class_numbered}
 
 abbrev pub text_of : Option Datum → Option Text
 text_of (Some (AText x)) = Some x

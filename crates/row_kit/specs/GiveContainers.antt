@@ -1,10 +1,6 @@
 -- New tuples and lists, and the keys and values of dicts.
-use Rattle.std.specs.Prelude.{map, List, [], ◌∷◌, ◌++◌}
-use Rattle.py_node.specs.declared.refs.PyObjectRef.{PyObjectRef}
-use Rattle.plain_machine.specs.Dicts.{Entries}
-use Rattle.plain_machine.specs.Known.{the_tuple, the_list}
-use Rattle.plain_machine.specs.Plain.{ATuple, AList, PlainWorld, Said}
-use Rattle.plain_machine.specs.World.{with_node, next_node}
+use Rattle.row_kit.specs.Below.{map, List, [], PyObjectRef, Entries, the_tuple, the_list, ATuple, AList, PlainWorld, Said, with_node, next_node}
+use Rattle.std.specs.Prelude.{◌∷◌, ◌++◌}
 use Rattle.row_kit.specs.Say.{object_made}
 
 abbrev pub tuple_made : PlainWorld → List PyObjectRef → Said

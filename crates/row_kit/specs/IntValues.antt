@@ -1,12 +1,6 @@
 -- Whole numbers as ints, their hashes, and the truth value that an object is.
-use Rattle.std.specs.Prelude.{ℤ, pos, negsuc, ◌^◌, unsigned_abs, Bool, false, eqb, ℕ, true, cond, ◌==◌, if◌then◌else◌, Option, Some, None, Ok}
-use Rattle.std.specs.Int.{w64, int_rem_euclid, cast_signed}
-use Rattle.py_node.specs.declared.refs.PyObjectRef.{PyObjectRef}
-use Rattle.py_node.specs.BuiltIns.{fixed_false, fixed_true}
-use Rattle.plain_machine.specs.Plain.{PlainWorld, Said, Ends}
-use Rattle.plain_machine.specs.World.{class_at}
-use Rattle.plain_machine.specs.Known.{the_int}
-use Rattle.plain_machine.specs.Row.{value}
+use Rattle.row_kit.specs.Below.{ℤ, pos, negsuc, unsigned_abs, Bool, false, eqb, ℕ, true, cond, Option, Some, None, Ok, w64, int_rem_euclid, cast_signed, PyObjectRef, fixed_false, fixed_true, PlainWorld, Said, Ends, class_at, the_int, value}
+use Rattle.std.specs.Prelude.{◌^◌, ◌==◌, if◌then◌else◌}
 use Rattle.row_kit.specs.Say.{int_made}
 
 abbrev pub is_zero : ℤ → Bool

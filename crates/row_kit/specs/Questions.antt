@@ -1,6 +1,6 @@
 -- What rows ask of one text: whether it has a null.
-use Rattle.std.specs.Prelude.{Bool, false, eqb, ◌||◌, [], ◌∷◌}
-use Rattle.py_node.specs.Tree.{Text}
+use Rattle.row_kit.specs.Below.{Bool, false, eqb, [], Text}
+use Rattle.std.specs.Prelude.{◌||◌, ◌∷◌}
 
 -- whether a text has a null character, which no name of a class has
 abbrev pub has_null : Text → Bool

@@ -1,16 +1,6 @@
 -- How often a sequence is repeated, and what it is then.
-use Rattle.std.specs.Prelude.{ℕ, ℤ, pos, negsuc, ◌*◌, cond, nat_le, length, List, Option, Some, None}
-use Rattle.std.specs.List.{repeat}
-use Rattle.py_node.specs.declared.refs.PyObjectRef.{PyObjectRef}
-use Rattle.py_node.specs.declared.raised.Cause.TheVariants.{RepeatTooLong, SelfType, TooLong}
-use Rattle.py_node.specs.declared.entry.ListNative.TheVariants.{InplaceMultiply}
-use Rattle.py_node.specs.declared.entry.NativeEntry.{NativeEntry}
-use Rattle.py_node.specs.declared.entry.NativeEntry.TheVariants.{OfStr, OfTuple, OfList}
-use Rattle.plain_machine.specs.Plain.{Datum, AText, ATuple, AList, PlainWorld, Ended, Said, Ends}
-use Rattle.plain_machine.specs.World.{datum_at}
-use Rattle.plain_machine.specs.Known.{the_str, the_tuple, the_list}
-use Rattle.plain_machine.specs.Objects.{with_datum}
-use Rattle.plain_machine.specs.Row.{Row, value, fault, most_items, on_index}
+use Rattle.row_kit.specs.Below.{ℕ, ℤ, pos, negsuc, cond, nat_le, length, List, Option, Some, None, repeat, PyObjectRef, RepeatTooLong, SelfType, TooLong, InplaceMultiply, NativeEntry, OfStr, OfTuple, OfList, Datum, AText, ATuple, AList, PlainWorld, Ended, Said, Ends, datum_at, the_str, the_tuple, the_list, with_datum, Row, value, fault, most_items, on_index}
+use Rattle.std.specs.Prelude.{◌*◌}
 use Rattle.row_kit.specs.Say.{object_made}
 
 -- a number that tells how often is an index

@@ -1,16 +1,6 @@
 -- What natives take that ask no task, and what they give.
-use Rattle.std.specs.Prelude.{ℕ, ℤ, cond, List, [], ◌∷◌, Option, Some, None, Result, Ok, Err, length, nat_le}
-use Rattle.py_node.specs.declared.refs.PyObjectRef.{PyObjectRef}
-use Rattle.py_node.specs.declared.built_in.BuiltIn.TheVariants.{Iterator}
-use Rattle.py_node.specs.declared.raised.Raised.{Raised as Fault}
-use Rattle.py_node.specs.declared.raised.Cause.TheVariants.{ArgCount, SelfType, IntRange, TooLong}
-use Rattle.py_node.specs.BuiltIns.{place_of}
-use Rattle.py_node.specs.Tree.{Text}
-use Rattle.plain_machine.specs.Plain.{Datum, ANumber, AText, ATuple, AList, ADict, AnIterator, PlainWorld, Bindings, AsNumber, Said, Ends}
-use Rattle.plain_machine.specs.World.{datum_at, number_of, with_node, next_node}
-use Rattle.plain_machine.specs.Known.{the_int, the_str}
-use Rattle.plain_machine.specs.Row.{value, not_implemented, fits, most_items, fault}
-use Rattle.plain_machine.specs.Takes.{with_one, with_two}
+use Rattle.row_kit.specs.Below.{ℕ, ℤ, cond, List, [], Option, Some, None, Result, Ok, Err, length, nat_le, PyObjectRef, Iterator, Raised as Fault, ArgCount, SelfType, IntRange, TooLong, place_of, Text, Datum, ANumber, AText, ATuple, AList, ADict, AnIterator, PlainWorld, Bindings, AsNumber, Said, Ends, datum_at, number_of, with_node, next_node, the_int, the_str, value, not_implemented, fits, most_items, fault, with_one, with_two}
+use Rattle.std.specs.Prelude.{◌∷◌}
 
 -- a number, which has at most 128 bits with its sign
 abbrev pub in_range : ℤ → Result ℤ Fault

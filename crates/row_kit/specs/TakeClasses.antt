@@ -1,15 +1,6 @@
 -- What natives take of classes, descriptors and properties.
-use Rattle.std.specs.Prelude.{ℕ, cond, eqb, List, Option, Some, None, [], ◌∷◌}
-use Rattle.py_node.specs.declared.refs.PyObjectRef.{PyObjectRef}
-use Rattle.py_node.specs.declared.built_in.BuiltIn.{BuiltIn}
-use Rattle.py_node.specs.declared.raised.Cause.TheVariants.{UnsafeNew, ArgCount, SelfType}
-use Rattle.py_node.specs.BuiltIns.{place_of}
-use Rattle.plain_machine.specs.Plain.{PlainWorld, Said, Ends, Datum, Bindings}
-use Rattle.plain_machine.specs.Objects.{nearest_built_in, class_number}
-use Rattle.plain_machine.specs.Row.{fault}
-use Rattle.py_node.specs.declared.raised.Cause.{Cause}
-use Rattle.plain_machine.specs.World.{datum_at}
-use Rattle.plain_machine.specs.Takes.{with_one}
+use Rattle.row_kit.specs.Below.{ℕ, cond, eqb, List, Option, Some, None, [], PyObjectRef, BuiltIn, UnsafeNew, ArgCount, SelfType, place_of, PlainWorld, Said, Ends, Datum, Bindings, nearest_built_in, class_number, fault, Cause, datum_at, with_one}
+use Rattle.std.specs.Prelude.{◌∷◌}
 
 abbrev pub safe_for : PlainWorld → ℕ → Option ℕ → Said → Said
 safe_for w b None go = Ends w (fault UnsafeNew)

@@ -1,12 +1,6 @@
 -- Tuples, lists, dicts and iterators: whether an object is one, and what it holds.
-use Rattle.std.specs.Prelude.{Bool, true, false, List, Option, Some}
-use Rattle.py_node.specs.declared.refs.PyObjectRef.{PyObjectRef}
-use Rattle.py_node.specs.declared.built_in.BuiltIn.{BuiltIn}
+use Rattle.row_kit.specs.Below.{Bool, true, false, List, Option, Some, PyObjectRef, BuiltIn, Entries, entries_in, Datum, ATuple, AList, ADict, AnIterator, PlainWorld, datum_at, items_in}
 use Rattle.py_node.specs.declared.built_in.BuiltIn.TheVariants as built_in
-use Rattle.plain_machine.specs.Dicts.{Entries, entries_in}
-use Rattle.plain_machine.specs.Plain.{Datum, ATuple, AList, ADict, AnIterator, PlainWorld}
-use Rattle.plain_machine.specs.World.{datum_at}
-use Rattle.class_world.specs.Listed.{items_in}
 use Rattle.row_kit.specs.declared.take_containers.Kind.{Kind}
 use Rattle.row_kit.specs.declared.take_containers.Kind.TheVariants as kind
 

@@ -1,7 +1,5 @@
 -- The text that an object holds.
-use Rattle.std.specs.Prelude.{Option, Some, None}
-use Rattle.py_node.specs.Tree.{Text}
-use Rattle.plain_machine.specs.Plain.{Datum, AText}
+use Rattle.row_kit.specs.Below.{Option, Some, None, Text, Datum, AText}
 
 -- the text that an object holds
 abbrev pub text_of : Option Datum → Option Text

@@ -1,10 +1,7 @@
 //! What is asked where an object is called by a native that is for its kind.
 
-ghost use Rattle.std.specs.Prelude.{◌≡◌, ◌∷◌, Some, IfOk, option_map};
-ghost use Rattle.plain_machine.specs.World.{datum_at};
-ghost use Rattle.class_world.specs.Sound.{AllHold, Holds, IsNode, AreNodes, of_payload, of_option, of_node_ref};
-ghost use Rattle.class_world.specs.Claims.{of_args, of_task};
-ghost use Rattle.class_world.specs.Reading.{Reading, bindings, datum, plain, task_of};
+ghost use Rattle.row_kit.specs.Below.{Some, IfOk, option_map, datum_at, AllHold, Holds, IsNode, AreNodes, of_payload, of_option, of_node_ref, of_args, of_task, Reading, bindings, datum, plain, task_of};
+ghost use Rattle.std.specs.Prelude.{◌≡◌, ◌∷◌};
 ghost use Rattle.row_kit.specs.Called.{call_native, with_self};
 
 use class_world::World;

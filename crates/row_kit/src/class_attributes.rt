@@ -1,12 +1,7 @@
 //! The names of attributes as new texts, with their values.
 
-ghost use Rattle.std.specs.Prelude.{◌≡◌, [], IfOk, OnOk};
-ghost use Rattle.plain_machine.specs.Known.{the_str};
-ghost use Rattle.plain_machine.specs.Plain.{AText};
-ghost use Rattle.plain_machine.specs.World.{with_node, next_node};
-ghost use Rattle.class_world.specs.Keyed.{of_entries};
-ghost use Rattle.class_world.specs.Reading.{Reading, Reads, bindings, plain, spelled};
-ghost use Rattle.class_world.specs.Sound.{AllHold, Grows, IsName, IsNode, Holds, of_binding, of_each};
+ghost use Rattle.row_kit.specs.Below.{[], IfOk, OnOk, the_str, AText, with_node, next_node, of_entries, Reading, Reads, bindings, plain, spelled, AllHold, Grows, IsName, IsNode, Holds, of_binding, of_each};
+ghost use Rattle.std.specs.Prelude.{◌≡◌};
 ghost use Rattle.row_kit.specs.ClassAttributes.{keyed};
 
 use class_world::World;

@@ -1,11 +1,7 @@
 //! What classes are called, in their modules.
 
-ghost use Rattle.std.specs.Prelude.{◌≡◌, ◌++◌, codes, false, Err, IfOk, IfSome, option_map, string_bytes};
-ghost use Rattle.py_node.specs.Known.{known_text};
-ghost use Rattle.plain_machine.specs.World.{datum_at, is_text};
-ghost use Rattle.class_world.specs.Reading.{Reading, Reads, plain};
-ghost use Rattle.class_world.specs.Rows.{EndsAs, LeavesEnd};
-ghost use Rattle.class_world.specs.Sound.{AllHold, IsClass, IsNode, Holds, of_node_ref, of_option};
+ghost use Rattle.row_kit.specs.Below.{codes, false, Err, IfOk, IfSome, option_map, string_bytes, known_text, datum_at, is_text, Reading, Reads, plain, EndsAs, LeavesEnd, AllHold, IsClass, IsNode, Holds, of_node_ref, of_option};
+ghost use Rattle.std.specs.Prelude.{◌≡◌, ◌++◌};
 ghost use Rattle.row_kit.specs.Say.{in_length, text_made};
 ghost use Rattle.row_kit.specs.ClassNames.{builtins, given, in_module, is_getset, module_of, qualname, text_of, text_or};
 

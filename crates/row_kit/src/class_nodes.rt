@@ -1,10 +1,7 @@
 //! The objects that stand for classes.
 
-ghost use Rattle.std.specs.Prelude.{◌≡◌, ℕ, map, IfOk};
-ghost use Rattle.class_model.specs.Order.{Includes};
-ghost use Rattle.class_table.specs.Keys.{numbers};
-ghost use Rattle.plain_machine.specs.World.{ref};
-ghost use Rattle.class_world.specs.Sound.{AreNodes, IsClass, Holds};
+ghost use Rattle.row_kit.specs.Below.{ℕ, map, IfOk, Includes, numbers, ref, AreNodes, IsClass, Holds};
+ghost use Rattle.std.specs.Prelude.{◌≡◌};
 
 use class_world::World;
 use py_node::{OutOfMemory, PyObjectRef, PyTypeRef};

@@ -1,6 +1,7 @@
 //! The entries of dicts, apart and again.
 
-ghost use Rattle.std.specs.Prelude.{◌≡◌, IfOk};
+ghost use Rattle.row_kit.specs.Below.{IfOk};
+ghost use Rattle.std.specs.Prelude.{◌≡◌};
 ghost use Rattle.row_kit.specs.GiveContainers.{keys_of, values_of};
 
 use crate::take_containers::entries;

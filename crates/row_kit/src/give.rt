@@ -1,13 +1,7 @@
 //! What a native gives: a new object, a new number, or a new text.
 
-ghost use Rattle.std.specs.Prelude.{◌≡◌, Ok, None, [], IfOk, string_bytes};
-ghost use Rattle.py_node.specs.BuiltIns.{place_of};
-ghost use Rattle.plain_machine.specs.Sound.{holds_as};
-ghost use Rattle.plain_machine.specs.Takes.{named_end};
-ghost use Rattle.class_world.specs.Claims.{of_ended};
-ghost use Rattle.class_world.specs.Reading.{Reading, datum, ended_of};
-ghost use Rattle.class_world.specs.Sound.{AllHold, Holds, IsNode, class_in, home_of, of_payload};
-ghost use Rattle.class_world.specs.Rows.{EndsAs, LeavesEnd};
+ghost use Rattle.row_kit.specs.Below.{Ok, None, [], IfOk, string_bytes, place_of, holds_as, named_end, of_ended, Reading, datum, ended_of, AllHold, Holds, IsNode, class_in, home_of, of_payload, EndsAs, LeavesEnd};
+ghost use Rattle.std.specs.Prelude.{◌≡◌};
 ghost use Rattle.row_kit.specs.Say.{int_made, iterator_made, text_made, object_made, size_of, sized_made};
 
 use class_world::limits::is_within_limit;

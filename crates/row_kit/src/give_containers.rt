@@ -1,14 +1,9 @@
 //! New tuples and lists, and the keys of a dict with their values as pairs.
 
-ghost use Rattle.std.specs.Prelude.{IfOk, ◌≡◌, [], ◌∷◌, OnOk};
+ghost use Rattle.row_kit.specs.Below.{IfOk, [], OnOk, AreNodes, Holds, Grows, IsNode, EndsAs, LeavesEnd, the_tuple, ATuple, next_node, with_node, Reading, Reads, plain};
+ghost use Rattle.std.specs.Prelude.{◌≡◌, ◌∷◌};
 ghost use Rattle.py_node.specs.declared.built_in.BuiltIn.TheVariants.{List};
-ghost use Rattle.class_world.specs.Sound.{AreNodes, Holds, Grows, IsNode};
-ghost use Rattle.class_world.specs.Rows.{EndsAs, LeavesEnd};
 ghost use Rattle.row_kit.specs.GiveContainers.{list_made, tuple_made, pairs_made};
-ghost use Rattle.plain_machine.specs.Known.{the_tuple};
-ghost use Rattle.plain_machine.specs.Plain.{ATuple};
-ghost use Rattle.plain_machine.specs.World.{next_node, with_node};
-ghost use Rattle.class_world.specs.Reading.{Reading, Reads, plain};
 ghost use Rattle.row_kit.specs.TakeContainers.{entries_at};
 
 use crate::entries::copy_entries;

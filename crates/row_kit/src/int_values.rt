@@ -1,11 +1,8 @@
 //! Whole numbers as ints, their hashes, and the truth value that an object is.
 
-ghost use Rattle.std.specs.Prelude.{◌≡◌, IfOk};
+ghost use Rattle.row_kit.specs.Below.{IfOk, Reading, plain, Holds, IsNode, class_at, EndsAs, LeavesEnd};
+ghost use Rattle.std.specs.Prelude.{◌≡◌};
 ghost use Rattle.row_kit.specs.IntValues.{truth_of, as_int, is_int, number_hash};
-ghost use Rattle.class_world.specs.Reading.{Reading, plain};
-ghost use Rattle.class_world.specs.Sound.{Holds, IsNode};
-ghost use Rattle.plain_machine.specs.World.{class_at};
-ghost use Rattle.class_world.specs.Rows.{EndsAs, LeavesEnd};
 
 use crate::give::new_int;
 use class_world::{Fixed, World};

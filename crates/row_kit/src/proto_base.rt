@@ -1,11 +1,8 @@
 //! What rows of protocols share: what a slot's entry asks, and tests of an object's class.
 #![tactic(auto, using(crate::proofs::ProtoBase::Nodes::all_nodes, crate::proofs::ProtoBase::Nodes::first_node))]
 
-ghost use Rattle.std.specs.Prelude.{◌≡◌, IfOk};
-ghost use Rattle.py_node.specs.BuiltIns.{place_of};
-ghost use Rattle.class_world.specs.Claims.{of_task};
-ghost use Rattle.class_world.specs.Reading.{Reading, Reads, plain, task_of};
-ghost use Rattle.class_world.specs.Sound.{AllHold, Holds, IsNode, of_each, of_node_ref};
+ghost use Rattle.row_kit.specs.Below.{IfOk, place_of, of_task, Reading, Reads, plain, task_of, AllHold, Holds, IsNode, of_each, of_node_ref};
+ghost use Rattle.std.specs.Prelude.{◌≡◌};
 ghost use Rattle.row_kit.specs.ProtoBase.Entered.{entered, is_exactly, is_plain};
 
 use class_world::World;

@@ -1,7 +1,7 @@
 //! What rows ask of one object or one text: whether it is NotImplemented, and whether it has a null.
 
-ghost use Rattle.std.specs.Prelude.{◌≡◌, true};
-ghost use Rattle.plain_machine.specs.Row.{is_not_implemented};
+ghost use Rattle.row_kit.specs.Below.{true, is_not_implemented};
+ghost use Rattle.std.specs.Prelude.{◌≡◌};
 ghost use Rattle.row_kit.specs.Questions.{has_null};
 
 use class_world::Fixed;

@@ -1,11 +1,7 @@
 //! What a native takes: an object that holds a number, alone or with one argument, or two numbers.
 
-ghost use Rattle.std.specs.Prelude.{◌≡◌, ℤ, Err, IfErr, IfOk};
-ghost use Rattle.plain_machine.specs.Plain.{Said, Ends};
-ghost use Rattle.py_node.specs.declared.refs.PyObjectRef.{PyObjectRef as Object};
-ghost use Rattle.class_world.specs.Reading.{Reading, bindings, ended_of, plain};
-ghost use Rattle.class_world.specs.Sound.{AllHold, AreNodes, IsNode, Holds};
-ghost use Rattle.class_world.specs.Claims.{of_ended};
+ghost use Rattle.row_kit.specs.Below.{ℤ, Err, IfErr, IfOk, Said, Ends, PyObjectRef as Object, Reading, bindings, ended_of, plain, AllHold, AreNodes, IsNode, Holds, of_ended};
+ghost use Rattle.std.specs.Prelude.{◌≡◌};
 ghost use Rattle.row_kit.specs.Say.{with_number, with_lone_number, with_number_and, with_numbers, numbers_of};
 
 use class_world::takes::{one, two};

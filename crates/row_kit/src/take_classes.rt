@@ -1,10 +1,7 @@
 //! What a native takes: a class, alone, or one whose objects are those of a built-in class.
 
-ghost use Rattle.std.specs.Prelude.{◌≡◌, ℕ, Ok, Err, IfErr, IfOk};
-ghost use Rattle.plain_machine.specs.Plain.{Said, Ends};
-ghost use Rattle.plain_machine.specs.Sound.{holds_as};
-ghost use Rattle.class_world.specs.Reading.{Reading, plain, bindings};
-ghost use Rattle.class_world.specs.Sound.{AreNodes, IsClass, IsOf, Holds};
+ghost use Rattle.row_kit.specs.Below.{ℕ, Ok, Err, IfErr, IfOk, Said, Ends, holds_as, Reading, plain, bindings, AreNodes, IsClass, IsOf, Holds};
+ghost use Rattle.std.specs.Prelude.{◌≡◌};
 ghost use Rattle.row_kit.specs.TakeClasses.{with_heir, with_class, with_lone_class};
 
 use class_world::World;

@@ -1,11 +1,7 @@
 //! Tuples, lists, dicts and iterators: whether an object is one, and what it holds.
 
-ghost use Rattle.std.specs.Prelude.{◌≡◌, [], IsTrue, Some};
-ghost use Rattle.plain_machine.specs.World.{datum_at};
-ghost use Rattle.py_node.specs.declared.built_in.BuiltIn.TheVariants.{Dict};
-ghost use Rattle.class_world.specs.Keyed.{of_entries};
-ghost use Rattle.class_world.specs.Reading.{Reading, datum, plain};
-ghost use Rattle.class_world.specs.Sound.{AllHold, AreNodes, Holding, Holds, IsNode, home_of};
+ghost use Rattle.row_kit.specs.Below.{[], IsTrue, Some, datum_at, Dict, of_entries, Reading, datum, plain, AllHold, AreNodes, Holding, Holds, IsNode, home_of};
+ghost use Rattle.std.specs.Prelude.{◌≡◌};
 ghost use Rattle.row_kit.specs.TakeContainers.{entries_at, home_of_kind, is_of, items_at};
 
 use class_world::World;

@@ -1,3 +1,5 @@
+pub mod Lemmas
+pub mod Below
 pub mod Lists
 pub mod Distinct
 pub mod Found

@@ -1,9 +1,5 @@
 -- What the parts of a form spell, and how deep they are.
-use Rattle.std.specs.Prelude.{ℕ, max, false, true, List, Option, Some, option_map, option_and_then}
-use Rattle.serde_json.specs.Data.{Items, depth, items_depth}
-use Rattle.serde_json.specs.Find.{as_str}
-use Rattle.serde_json.specs.View.{view, items_view}
-use Rattle.py_node.specs.Tree.{Tree, TName, TBind, TAttr, TSetAttr, TDelAttr, TIf, TRaise}
+use Rattle.script_text.specs.Below.{ℕ, max, false, true, List, Option, Some, option_map, option_and_then, Items, depth, items_depth, as_str, view, items_view, Tree, TName, TBind, TAttr, TSetAttr, TDelAttr, TIf, TRaise}
 use Rattle.script_text.specs.declared.form_words.FormWord.{FormWord}
 use Rattle.script_text.specs.declared.form_words.FormWord.TheVariants as form
 use Rattle.script_text.specs.declared.form_parts.Single.{Single}

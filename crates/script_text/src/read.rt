@@ -1,7 +1,7 @@
 //! The commands of a script.
 
-ghost use Rattle.std.specs.Prelude.{◌≡◌, Some, None, Err, IfOk};
-ghost use Rattle.serde_json.specs.View.{view, items_view};
+ghost use Rattle.script_text.specs.Below.{Some, None, Err, IfOk, view, items_view};
+ghost use Rattle.std.specs.Prelude.{◌≡◌};
 ghost use Rattle.script_text.specs.declared.json_text.error.ScriptError.{ScriptError as Refusal};
 ghost use Rattle.script_text.specs.Forms.{exprs_of};
 ghost use Rattle.script_text.specs.Script.{script_of, commands_of, commands_in, command_trees};

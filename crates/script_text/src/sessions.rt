@@ -1,8 +1,7 @@
 //! The sessions of callers who share a machine.
 
-ghost use Rattle.std.specs.Prelude.{◌≡◌, ◌≤◌, ◌<◌, Some, None, IfOk, length, vec_len};
-ghost use Rattle.std.specs.List.{All};
-ghost use Rattle.serde_json.specs.View.{view, items_view};
+ghost use Rattle.script_text.specs.Below.{Some, None, IfOk, length, vec_len, All, view, items_view};
+ghost use Rattle.std.specs.Prelude.{◌≡◌, ◌≤◌, ◌<◌};
 ghost use Rattle.script_text.specs.declared.json_text.error.ScriptError.{ScriptError as Refusal};
 ghost use Rattle.script_text.specs.Forms.{list_of};
 ghost use Rattle.script_text.specs.Script.{command_trees};

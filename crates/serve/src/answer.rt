@@ -1,9 +1,7 @@
 //! A text that is read from a source and answered.
 
-ghost use Rattle.std.specs.Prelude.{◌≡◌, ◌<◌, ◌≤◌, ◌+◌, ◌^◌, [], ◌++◌, ℕ, List, length, take, drop, Some, IfOk, Err};
-ghost use Rattle.std.specs.Option.{ForSome};
-ghost use Rattle.outside.specs.Count.{Rose};
-ghost use Rattle.script_text.specs.declared.json_text.error.ScriptError.{ScriptError as Refusal};
+ghost use Rattle.serve.specs.Below.{[], ℕ, List, length, take, drop, Some, IfOk, Err, ForSome, Rose, ScriptError as Refusal};
+ghost use Rattle.std.specs.Prelude.{◌≡◌, ◌<◌, ◌≤◌, ◌+◌, ◌^◌, ◌++◌};
 ghost use Rattle.serve.specs.Headline.{IsAnswer, IsRefused, IsRoomFor, IsSpelled};
 ghost use Rattle.serve.specs.Status.{HasReadAll, IsDoneOrPoor};
 

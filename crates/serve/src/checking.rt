@@ -1,10 +1,7 @@
 //! A hierarchy that is checked.
 
-ghost use Rattle.std.specs.Prelude.{◌≡◌, IfOk, Err};
-ghost use Rattle.order_check.specs.Hierarchy.{AreKeyed};
-ghost use Rattle.order_check.specs.Report.{IsReport, AreFound};
-ghost use Rattle.order_check.specs.HierarchyText.Spelled.{hierarchy_of};
-ghost use Rattle.script_text.specs.declared.json_text.error.ScriptError.{ScriptError as Refusal};
+ghost use Rattle.serve.specs.Below.{IfOk, Err, AreKeyed, IsReport, AreFound, hierarchy_of, ScriptError as Refusal};
+ghost use Rattle.std.specs.Prelude.{◌≡◌};
 ghost use Rattle.serve.specs.Headline.{IsReportOf};
 
 use order_check::hierarchy_text::read_hierarchy;

@@ -1,10 +1,8 @@
 //! A script that is run.
 
-ghost use Rattle.std.specs.Prelude.{◌≡◌, IfOk, Err};
-ghost use Rattle.script_text.specs.Script.{script_of};
-ghost use Rattle.script_text.specs.declared.json_text.error.ScriptError.{ScriptError as Refusal};
+ghost use Rattle.serve.specs.Below.{IfOk, Err, script_of, ScriptError as Refusal, trees_in};
+ghost use Rattle.std.specs.Prelude.{◌≡◌};
 ghost use Rattle.serve.specs.Headline.{IsTextOf, run_text};
-ghost use Rattle.vm_eval.specs.Runs.{trees_in};
 
 use py_node::{Command, OutOfMemory};
 use script_text::json_text::ScriptFault;

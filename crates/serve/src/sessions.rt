@@ -1,9 +1,7 @@
 //! Sessions of callers who share a machine.
 
-ghost use Rattle.std.specs.Prelude.{◌≡◌, ◌<◌, vec_len, IfOk, Err};
-ghost use Rattle.std.specs.List.{All};
-ghost use Rattle.script_text.specs.Sessions.{sessions_of, session_trees};
-ghost use Rattle.script_text.specs.declared.json_text.error.ScriptError.{ScriptError as Refusal};
+ghost use Rattle.serve.specs.Below.{vec_len, IfOk, Err, All, sessions_of, session_trees, ScriptError as Refusal};
+ghost use Rattle.std.specs.Prelude.{◌≡◌, ◌<◌};
 ghost use Rattle.serve.specs.Headline.{IsMixOf, IsMixText};
 
 use py_node::{Command, OutOfMemory};

@@ -1,3 +1,5 @@
+pub mod Lemmas
+pub mod Below
 mod Journals
 mod Steps
 pub mod Histories

@@ -1,3 +1,4 @@
+pub mod Below
 pub mod Journal
 pub mod Book
 pub mod Turns

@@ -1,3 +1,5 @@
+pub mod Lemmas
+pub mod Below
 pub mod Composed
 pub mod Hints
 pub mod Kinded

@@ -1,3 +1,4 @@
+pub mod Below
 pub mod Answers
 pub mod Loaded
 pub mod Told

@@ -1,3 +1,5 @@
+pub mod Lemmas
+pub mod Below
 pub mod Groups
 pub mod Turns
 pub mod Commands

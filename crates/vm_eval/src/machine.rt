@@ -1,14 +1,7 @@
 //! The virtual machine: a world, and whether a run of it found no memory.
 
-ghost use Rattle.std.specs.Prelude.{◌≡◌, ◌≤◌, [], map, IfErr, IfOk, OnOk, OnErr, Err, IsTrue, false, true};
-ghost use Rattle.class_table.specs.ClassLog.Change.{change_of};
-ghost use Rattle.class_table.specs.ClassLog.Logged.{AreSameButForNames};
-ghost use Rattle.class_table.specs.ClassLog.Refused.{AreMade};
-ghost use Rattle.class_table.specs.ClassLog.Shown.{shown, first_classes};
-ghost use Rattle.plain_machine.specs.Start.{start};
-ghost use Rattle.class_world.specs.Reading.{Reading, Reads, plain, IsReadable};
-ghost use Rattle.plain_machine.specs.Sound.{IsSound};
-ghost use Rattle.class_world.specs.Sound.{Grows};
+ghost use Rattle.vm_eval.specs.Below.{[], map, IfErr, IfOk, OnOk, OnErr, Err, IsTrue, false, true, change_of, AreSameButForNames, AreMade, shown, first_classes, start, Reading, Reads, plain, IsReadable, IsSound, Grows};
+ghost use Rattle.std.specs.Prelude.{◌≡◌, ◌≤◌};
 ghost use Rattle.vm_eval.specs.Runs.{Runs};
 
 use crate::run::replies;

@@ -1,15 +1,8 @@
 //! The natives that stand in no group of tasks, by what they ask. Each is a small automaton: `begin` and `resume`.
 #![tactic(auto)]
 
-ghost use Rattle.std.specs.Prelude.{◌≡◌, IfOk};
-ghost use Rattle.class_world.specs.Claims.{of_args, of_ended, of_step, Leaves};
-ghost use Rattle.class_world.specs.Sound.{AllHold};
-ghost use Rattle.proto_attr.specs.NativeCalls.Asks.{of_native_kept};
-ghost use Rattle.native_containers.specs.NativeCompare.Rows.{of_compared_kept};
-ghost use Rattle.proto_attr.specs.NativeDetails.Rows.{of_detail_kept};
-ghost use Rattle.native_containers.specs.NativeItems.Rows.{of_item_kept};
-ghost use Rattle.native_containers.specs.NativeParts.Rows.{of_parts_kept};
-ghost use Rattle.proto_ops.specs.NativeRepeats.Rows.{of_repeat_kept};
+ghost use Rattle.vm_eval.specs.Below.{IfOk, of_args, of_ended, of_step, Leaves, AllHold, of_native_kept, of_compared_kept, of_detail_kept, of_item_kept, of_parts_kept, of_repeat_kept};
+ghost use Rattle.std.specs.Prelude.{◌≡◌};
 ghost use Rattle.vm_eval.specs.OfNatives.Rows.{Begins, Resumes, kept_among, of_natives_kept};
 
 use crate::natives::family::{Family, family_of};

@@ -1,19 +1,7 @@
 //! The stack of frames: one turn at a time, until a task is answered or its units are used up.
 
-ghost use Rattle.std.specs.Prelude.{◌≡◌, ◌<◌, ◌≤◌, ℕ, [], ◌∷◌, ◌++◌, IfOk, OnErr, OnOk, vec_capacity};
-ghost use Rattle.class_world.specs.Sound.{AllHold, Lasts, of_each};
-ghost use Rattle.class_world.specs.Claims.{of_task, of_protocol_task, of_ended, of_step, left_open, LeavesOpen};
-ghost use Rattle.proto_call.specs.EvalForms.Rows.{of_eval_kept};
-ghost use Rattle.proto_attr.specs.Rows.{of_attribute_kept};
-ghost use Rattle.proto_attr.specs.ProtoDescr.Rows.{of_descriptor_kept};
-ghost use Rattle.proto_call.specs.Rows.{of_call_kept, bodies_of};
-ghost use Rattle.proto_call.specs.ClassMake.Rows.{of_class_kept};
-ghost use Rattle.proto_ops.specs.Rows.{of_operator_kept};
-ghost use Rattle.proto_ops.specs.ProtoCompare.Rows.{of_compare_kept};
-ghost use Rattle.proto_object.specs.ProtoNumber.Rows.{of_number_kept};
-ghost use Rattle.proto_object.specs.ProtoIter.Rows.{of_iter_kept};
-ghost use Rattle.proto_object.specs.ProtoItems.Rows.{of_items_kept};
-ghost use Rattle.proto_object.specs.Rows.{of_object_kept};
+ghost use Rattle.vm_eval.specs.Below.{ℕ, [], IfOk, OnErr, OnOk, vec_capacity, AllHold, Lasts, of_each, of_task, of_protocol_task, of_ended, of_step, left_open, LeavesOpen, of_eval_kept, of_attribute_kept, of_descriptor_kept, of_call_kept, bodies_of, of_class_kept, of_operator_kept, of_compare_kept, of_number_kept, of_iter_kept, of_items_kept, of_object_kept};
+ghost use Rattle.std.specs.Prelude.{◌≡◌, ◌<◌, ◌≤◌, ◌∷◌, ◌++◌};
 ghost use Rattle.vm_eval.specs.OfNatives.Rows.{of_natives_kept};
 ghost use Rattle.vm_eval.specs.Say.{Begins, Resumes, step_among, of_kept, bodies_in};
 ghost use Rattle.vm_eval.specs.Stack.{Answers, Reaches, Keeps, RunsAbove, AsDeep, EndsDeep, turns_left, of_turn, of_end};

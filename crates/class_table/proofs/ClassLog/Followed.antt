@@ -1,16 +1,7 @@
 -- A list of changes that follows a log.
-use Rattle.std.proofs.Common.{◌≡◌, ℕ, ◌+◌, ◌-◌, ◌≤◌, List, [], ◌∷◌, ◌++◌, map, length, take, drop, sym, ap, ◌∙◌, subst, arith, append_assoc, length-append, take-append-drop, length-drop}
-use Rattle.std.proofs.lemmas.List.{map-append, drop-map, take_rest, length-map}
-use Rattle.std.proofs.lemmas.List.Sums.{fold-append}
-use Rattle.std.proofs.Math.Seq.{drop-append_seam}
-use Rattle.py_node.specs.declared.refs.PyStrInterned.{PyStrInterned}
-use Rattle.class_model.specs.Class.{Classes}
-use Rattle.class_table.specs.Start.{start_classes}
-use Rattle.class_table.specs.declared.class_log.change.ClassChange.{ClassChange}
-use Rattle.class_table.specs.ClassLog.Change.{Change, change_of}
-use Rattle.class_table.specs.ClassLog.Shown.{shown, changed, first_classes}
-use Rattle.class_table.specs.ClassLog.Refused.{AreMade}
-use Rattle.class_table.specs.ClassLog.Following.{BeginsWith, CanFollow, Continues}
+use Rattle.class_table.proofs.Below.{ℕ, List, [], map, length, take, drop, sym, ap, ◌∙◌, subst, arith, append_assoc, map-append, drop-map, take_rest, length-map, fold-append, drop-append_seam, PyStrInterned, Classes, start_classes, ClassChange, Change, change_of, shown, changed, first_classes, AreMade, CanFollow, Continues}
+use Rattle.std.proofs.Common.{◌≡◌, ◌+◌, ◌-◌, ◌≤◌, ◌∷◌, ◌++◌, length-append, take-append-drop, length-drop}
+use Rattle.class_table.specs.ClassLog.Following.{BeginsWith}
 
 -- before any change
 pub opens : (t : Classes PyStrInterned) (changes : List ClassChange) → changes ≡ [] → t ≡ start_classes → t ≡ shown (map change_of changes)

@@ -1,10 +1,6 @@
 -- What stays where a change is refused, and what a call that isn't refused has passed.
-use Rattle.std.proofs.Common.{◌≡◌, Bool, true, false, cond, List, Some, None, refl, sym, subst}
-use Rattle.py_node.specs.declared.raised.Cause.TheVariants.{NotBaseType}
-use Rattle.py_node.specs.declared.refs.PyStrInterned.{PyStrInterned}
-use Rattle.class_model.specs.Class.{Classes}
-use Rattle.class_table.specs.ClassLog.Change.{Change}
-use Rattle.class_table.specs.ClassLog.Logged.{IsLogged}
+use Rattle.class_table.proofs.Below.{Bool, true, false, cond, List, Some, None, refl, sym, subst, NotBaseType, PyStrInterned, Classes, Change, IsLogged}
+use Rattle.std.proofs.Common.{◌≡◌}
 
 -- the log and the classes are as they were
 pub logged-kept : (log new : List Change) (t u : Classes PyStrInterned) → new ≡ log → u ≡ t → IsLogged log t → IsLogged new u

@@ -1,34 +1,10 @@
 -- A change that is made to the classes that a log shows but for their names is one that the log shows next.
-use Rattle.std.proofs.Common.{◌≡◌, ℕ, zero, suc, ◌≤◌, Bool, true, false, cond, ◌||◌, List, [], ◌∷◌, ◌++◌, map, fold, Option, Some, None, Result, Ok, Err, OnOk, OnErr, refl, sym, ap, ◌∙◌, subst, rules}
+use Rattle.class_table.proofs.Below.{ℕ, zero, suc, Bool, true, false, cond, List, [], map, fold, Option, Some, None, Result, Ok, Err, OnOk, OnErr, refl, sym, ap, ◌∙◌, subst, rules, bit_and, map-append, NotBaseType, PyStrInterned, PyObjectRef, PyTypeRef, PyTypeFlags, Vec, is_same_name, with_value, without_key, heap_flags, heap_type, Text, Class, Classes, class_at, is_class, with_class, with_class_attr, without_class_attr, with_class_name, with_bases, any_has_dict, has_dict, heap_class, slots_bring, slot_members, limit, AreSound, numbers, table_keys, refused_single, says_so, single_class, static_flags, refused_rebase, AreThere, is_base_at, refused_attr, refused_bases, start_classes, ClassChange, Made, Change, Make, SetOwn, DelOwn, SetBases, change_of, made_of, Keeps, CanFollow, is_of_script, static_class, made_class, changed, shown, first_classes, IsOfItsKind, IsFit, by_cause, refused_static, refused_made, refused, IsMade, AreMade, unnamed, AreSameButForNames, IsLogged, made_by_script, made_single, IsGivenTo, IsGiven}
+use Rattle.std.proofs.Common.{◌≡◌, ◌≤◌, ◌||◌, ◌∷◌, ◌++◌}
 use Rattle.std.specs.Prelude.{◌==◌}
-use Rattle.std.specs.Int.RustNames.{bit_and}
-use Rattle.std.proofs.lemmas.List.{map-append}
-use Rattle.py_node.specs.declared.raised.Cause.TheVariants.{NotBaseType}
-use Rattle.py_node.specs.declared.refs.PyStrInterned.{PyStrInterned}
-use Rattle.py_node.specs.declared.refs.PyObjectRef.{PyObjectRef}
-use Rattle.py_node.specs.declared.refs.PyTypeRef.{PyTypeRef}
-use Rattle.py_node.specs.declared.flags.PyTypeFlags.{PyTypeFlags}
-use Rattle.std.specs.Global.{Vec}
-use Rattle.py_node.specs.Attributes.{is_same_name, with_value, without_key}
-use Rattle.py_node.specs.BuiltIns.{heap_flags, heap_type}
-use Rattle.py_node.specs.Tree.{Text}
-use Rattle.class_model.specs.Class.{Class, Classes, class_at, is_class}
-use Rattle.class_model.specs.Change.{with_class, with_class_attr, without_class_attr, with_class_name, with_bases}
-use Rattle.class_model.specs.Dict.{any_has_dict, has_dict, heap_class, slots_bring, slot_members}
-use Rattle.class_model.specs.Numbers.{limit}
-use Rattle.class_model.specs.Sound.{AreSound}
-use Rattle.class_table.specs.Keys.{numbers, slot_names, table_keys}
-use Rattle.class_table.specs.OneBase.{refused_single, says_so, single_class, static_flags}
-use Rattle.class_table.specs.Rebase.{refused_rebase}
-use Rattle.class_table.specs.Refused.{AreThere, is_base_at, refused_attr, refused_bases}
-use Rattle.class_table.specs.Start.{start_classes}
+use Rattle.class_table.specs.Keys.{slot_names}
 use Rattle.class_table.proofs.Single.{one-allowed}
-use Rattle.class_table.specs.declared.class_log.change.ClassChange.{ClassChange}
-use Rattle.class_table.specs.ClassLog.Change.{Made, Change, Make, SetOwn, DelOwn, SetBases, change_of, made_of}
-use Rattle.class_table.specs.ClassLog.Following.{BeginsWith, Keeps, CanFollow}
-use Rattle.class_table.specs.ClassLog.Shown.{is_of_script, static_class, made_class, changed, shown, first_classes}
-use Rattle.class_table.specs.ClassLog.Refused.{IsOfItsKind, IsFit, by_cause, refused_static, refused_made, refused, IsMade, AreMade}
-use Rattle.class_table.specs.ClassLog.Logged.{unnamed, AreSameButForNames, IsLogged, made_by_script, made_single, IsGivenTo, IsGiven}
+use Rattle.class_table.specs.ClassLog.Following.{BeginsWith}
 use Rattle.class_table.proofs.ClassLog.Followed.{shown-added}
 use Rattle.class_table.proofs.ClassLog.Unnamed.{unnamed-push, unnamed-changed, unnamed-called, bases-unnamed, limit-unnamed, class-unnamed, dicts-unnamed, bases-refused, attr-refused, single-refused, rebase-refused}
 

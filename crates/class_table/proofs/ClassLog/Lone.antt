@@ -1,13 +1,7 @@
 -- The test of a static class's parts.
-use Rattle.std.proofs.Common.{◌≡◌, ℕ, Bool, true, false, not, ◌↔◌, IsTrue, nat_eq, List, [], ◌∷◌, length, Option, Some, None, is_some, refl, sym, ap, ◌∙◌, subst, rules}
-use Rattle.std.specs.Global.{Vec}
-use Rattle.py_node.specs.declared.refs.PyTypeRef.{PyTypeRef}
-use Rattle.py_node.specs.declared.refs.PyStrInterned.{PyStrInterned}
-use Rattle.class_model.specs.Class.{Classes}
-use Rattle.class_table.specs.Keys.{numbers, slot_names}
-use Rattle.class_table.specs.ClassLog.Change.{Made}
-use Rattle.class_table.specs.ClassLog.Shown.{is_of_script}
-use Rattle.class_table.specs.ClassLog.Refused.{IsOfItsKind}
+use Rattle.class_table.proofs.Below.{ℕ, Bool, true, false, not, IsTrue, nat_eq, List, [], length, Option, Some, None, refl, sym, ap, ◌∙◌, subst, rules, Vec, PyTypeRef, PyStrInterned, Classes, numbers, Made, is_of_script, IsOfItsKind}
+use Rattle.std.proofs.Common.{◌≡◌, ◌↔◌, ◌∷◌, is_some}
+use Rattle.class_table.specs.Keys.{slot_names}
 
 abbrev IsLone : List ℕ → Type 0
 IsLone ns = (b : ℕ) × (ns ≡ b ∷ [])

@@ -1,23 +1,6 @@
 -- Other names for classes change nothing else.
-use Rattle.std.proofs.Common.{◌≡◌, ℕ, Bool, true, false, cond, not, ◌&&◌, ◌||◌, eqb, List, [], ◌∷◌, ◌++◌, map, length, Option, Some, None, refl, sym, ap, ◌∙◌}
-use Rattle.std.specs.Prelude.{nat_lt, is_some, is_none, option_map, option_and_then}
-use Rattle.std.specs.Option.{option_or}
-use Rattle.std.proofs.lemmas.List.{length-map}
-use Rattle.py_node.specs.declared.raised.Cause.{Cause}
-use Rattle.py_node.specs.declared.raised.Cause.TheVariants.{EmptyBases, NotBaseType, LayoutConflict, DuplicateBase, ImmutableType, InheritanceCycle, LayoutDiffers}
-use Rattle.class_model.specs.Order.{linear, is_distinct, least_order, all_some}
-use Rattle.class_model.specs.Class.{Class, Classes, class_at, is_class, bases_of, lin, is_along, is_sub}
-use Rattle.class_model.specs.Change.{with_changed, with_class_name, with_bases, order_cause, blamed_along, caused, failing}
-use Rattle.class_model.specs.Dict.{alike, has_dict, says_dict, any_has_dict, dict_with, keeps_dict}
-use Rattle.class_model.specs.Layout.{built_ins, is_empty, has_members, is_solid, solid, solid_within, base, best_of}
-use Rattle.class_model.specs.Numbers.{numbers_of, past_all, limit}
-use Rattle.class_model.specs.Slot.{is_heap_at}
-use Rattle.class_model.proofs.Agreed.{bind-agrees}
-use Rattle.class_model.proofs.Linear.{linear-same}
-use Rattle.class_model.proofs.Solid.{first_best-agrees, solid_within-same, base-agrees}
-use Rattle.class_table.specs.Rebase.{any_derives, is_same, unless, refused_shape, refused_change, refused_rebase, Refusal}
-use Rattle.class_table.specs.Refused.{is_base_at, most_derived, are_apart, refused_attr, refused_base, refused_after, refused_layout, refused_lines, refused_order, refused_bases}
-use Rattle.class_table.specs.ClassLog.Logged.{unnamed}
+use Rattle.class_table.proofs.Below.{ℕ, Bool, true, false, cond, not, eqb, List, [], map, length, Option, Some, None, refl, sym, ap, ◌∙◌, nat_lt, is_some, is_none, option_map, option_and_then, option_or, length-map, Cause, EmptyBases, NotBaseType, LayoutConflict, DuplicateBase, ImmutableType, InheritanceCycle, LayoutDiffers, linear, is_distinct, least_order, all_some, Class, Classes, class_at, is_class, bases_of, lin, is_along, is_sub, with_changed, with_class_name, with_bases, order_cause, blamed_along, caused, failing, alike, has_dict, says_dict, any_has_dict, dict_with, keeps_dict, built_ins, is_empty, has_members, is_solid, solid, solid_within, base, best_of, numbers_of, past_all, limit, is_heap_at, bind-agrees, linear-same, first_best-agrees, solid_within-same, base-agrees, any_derives, is_same, unless, refused_shape, refused_change, refused_rebase, Refusal, is_base_at, most_derived, are_apart, refused_attr, refused_base, refused_after, refused_layout, refused_lines, refused_order, refused_bases, unnamed}
+use Rattle.std.proofs.Common.{◌≡◌, ◌&&◌, ◌||◌, ◌∷◌, ◌++◌}
 
 module _ {K : Type 0} where
   -- what doesn't see the name of a class sees the same

@@ -1,12 +1,8 @@
 -- A line alone is its own merge.
-use Rattle.std.proofs.Common.{◌≡◌, ℕ, List, [], ◌∷◌, ◌++◌, length, inl, inr, refl, sym, ap, subst, ◌∙◌, arith}
+use Rattle.class_table.proofs.Below.{ℕ, List, [], length, inl, inr, refl, sym, ap, subst, ◌∙◌, arith, Vec, PyTypeRef, Includes, Distinct, Subsequence, ranks, is_lexicographic, Includes-left, Includes-sides, distinct-fewer, Subsequence-itself, Subsequence-full, rows, with_heads, AreLines, IsMerge, IsLeastMerge}
+use Rattle.std.proofs.Common.{◌≡◌, ◌∷◌, ◌++◌}
 use Rattle.std.specs.Prelude.{get_or}
-use Rattle.std.specs.Global.{Vec}
-use Rattle.py_node.specs.declared.refs.PyTypeRef.{PyTypeRef}
-use Rattle.class_model.specs.Order.{Includes, Distinct, Subsequence, ranks, is_lexicographic}
-use Rattle.class_model.proofs.Held.{Includes-left, Includes-sides, distinct-fewer, Subsequence-itself, Subsequence-full}
-use Rattle.class_table.specs.MroMerge.Lists.{numbers, rows}
-use Rattle.class_table.specs.MroMerge.Merge.{with_heads, AreLines, IsMerge, IsLeastMerge}
+use Rattle.class_table.specs.MroMerge.Lists.{numbers}
 use Rattle.class_table.proofs.MroMerge.Linearised.{itself}
 
 abbrev only : ℕ → List ℕ → List (List ℕ)

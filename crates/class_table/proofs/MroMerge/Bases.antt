@@ -1,10 +1,6 @@
 -- The lists of a class's bases: their heads are the bases.
-use Rattle.std.proofs.Common.{◌≡◌, ℕ, List, [], ◌∷◌, ◌++◌, Some, None, inl, inr, refl, sym, ap, subst, ◌∙◌}
-use Rattle.std.specs.Prelude.{option_map}
-use Rattle.class_model.specs.Order.{unique, without, least_order, Includes, Distinct, BeginsWith}
-use Rattle.class_model.proofs.Arranged.{least_order-least, least_order-none}
-use Rattle.class_table.specs.MroMerge.Merge.{IsApart, heads, with_heads, IsLeastMerge, HasNoMerge, AreLines, AreLinesOf, IsRest, HasNoOrder}
-use Rattle.class_table.specs.MroMerge.Steps.{merged}
+use Rattle.class_table.proofs.Below.{ℕ, List, [], Some, None, inl, inr, refl, sym, ap, subst, ◌∙◌, option_map, unique, without, least_order, Includes, Distinct, BeginsWith, least_order-least, least_order-none, IsApart, heads, with_heads, IsLeastMerge, HasNoMerge, AreLines, AreLinesOf, IsRest, HasNoOrder, merged}
+use Rattle.std.proofs.Common.{◌≡◌, ◌∷◌, ◌++◌}
 use Rattle.class_table.proofs.MroMerge.Struck.{without-none}
 use Rattle.class_table.proofs.MroMerge.Steps.{least_order-merged}
 use Rattle.class_table.proofs.MroMerge.Linearised.{merged-least, merged-none}

@@ -1,13 +1,8 @@
 -- A list that holds a class back.
-use Rattle.std.proofs.Common.{◌≡◌, ℕ, zero, suc, true, ◌<◌, List, [], ◌∷◌, length, get_or, sym, ap, ◌∙◌, arith}
+use Rattle.class_table.proofs.Below.{ℕ, zero, suc, true, List, [], length, get_or, sym, ap, ◌∙◌, arith, Vec, or_right, PyTypeRef, has, past_first, stands_past, rows}
+use Rattle.std.proofs.Common.{◌≡◌, ◌<◌, ◌∷◌}
 use Rattle.std.specs.Prelude.{◌||◌}
-use Rattle.std.specs.Global.{Vec}
-use Rattle.std.proofs.lemmas.Bool.{or_right}
-use Rattle.py_node.specs.declared.refs.PyTypeRef.{PyTypeRef}
-use Rattle.class_model.specs.Order.{has}
-use Rattle.class_model.specs.Class.{past_first}
-use Rattle.class_model.specs.Change.{stands_past}
-use Rattle.class_table.specs.MroMerge.Lists.{numbers, rows}
+use Rattle.class_table.specs.MroMerge.Lists.{numbers}
 
 -- what stands past the head of one of some lists stands past a head
 pub past-at : (x : ℕ) (lists : List (Vec PyTypeRef)) (i : ℕ) (v : Vec PyTypeRef) → i < length lists → v ≡ get_or lists i v → has (past_first (numbers v.items)) x ≡ true → stands_past x (rows lists) ≡ true

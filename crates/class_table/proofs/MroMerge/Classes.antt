@@ -1,14 +1,7 @@
 -- Classes and their numbers.
-use Rattle.std.proofs.Common.{◌≡◌, ℕ, ◌<◌, false, cond, not, List, [], ◌∷◌, ◌++◌, length, get_or, drop, inl, inr, refl, sym, ap, ◌∙◌, arith}
-use Rattle.std.specs.Global.{Vec}
-use Rattle.std.proofs.lemmas.Bool.{eq-eqb, both_ways}
-use Rattle.std.proofs.lemmas.List.{map-append}
-use Rattle.py_node.specs.declared.refs.PyTypeRef.{PyTypeRef}
-use Rattle.class_model.specs.Order.{has, without, unique, Includes}
-use Rattle.class_model.specs.Class.{past_first}
-use Rattle.class_model.proofs.Tests.{Decides-has}
-use Rattle.class_table.specs.MroMerge.Lists.{numbers, rows}
-use Rattle.class_table.specs.MroMerge.Merge.{heads, with_heads}
+use Rattle.class_table.proofs.Below.{ℕ, false, cond, not, List, [], length, get_or, drop, inl, inr, refl, sym, ap, ◌∙◌, arith, Vec, eq-eqb, both_ways, map-append, PyTypeRef, has, without, unique, Includes, past_first, Decides-has, rows, heads, with_heads}
+use Rattle.std.proofs.Common.{◌≡◌, ◌<◌, ◌∷◌, ◌++◌}
+use Rattle.class_table.specs.MroMerge.Lists.{numbers}
 use Rattle.class_table.proofs.MroMerge.Struck.{without-none}
 
 pub same-class : (a b : PyTypeRef) → a.0 ≡ b.0 → a ≡ b

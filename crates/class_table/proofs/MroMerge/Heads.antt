@@ -1,16 +1,7 @@
 -- The heads of lists, each once, as they are collected.
-use Rattle.std.proofs.Common.{◌≡◌, ℕ, zero, suc, ◌<◌, true, false, cond, not, ◌||◌, List, [], ◌∷◌, ◌++◌, length, get_or, take, drop, ◌+◌, ◌-◌, inl, inr, refl, sym, ap, ◌∙◌, append_assoc, arith}
-use Rattle.std.specs.Global.{Vec}
-use Rattle.std.proofs.lemmas.List.{map-append, drop_more, take_rest}
-use Rattle.py_node.specs.declared.refs.PyTypeRef.{PyTypeRef}
-use Rattle.std.proofs.lemmas.Bool.{eq-eqb, ne_eqb, cases_eq}
-use Rattle.class_model.specs.Order.{has, without, unique, Includes}
-use Rattle.class_model.specs.Change.{stands_past, breaks_precedence}
-use Rattle.class_model.proofs.Held.{Includes-left, Includes-right, Includes-sides}
-use Rattle.class_model.proofs.Tests.{Decides-has}
-use Rattle.class_table.specs.MroMerge.Lists.{numbers, rows}
-use Rattle.class_table.specs.MroMerge.Merge.{heads, AreLines}
-use Rattle.class_table.specs.MroMerge.Steps.{past}
+use Rattle.class_table.proofs.Below.{ℕ, zero, suc, true, false, cond, not, List, [], length, get_or, take, drop, inl, inr, refl, sym, ap, ◌∙◌, append_assoc, arith, Vec, map-append, drop_more, take_rest, PyTypeRef, eq-eqb, ne_eqb, cases_eq, has, without, unique, Includes, stands_past, breaks_precedence, Includes-left, Includes-right, Includes-sides, Decides-has, rows, heads, AreLines, past}
+use Rattle.std.proofs.Common.{◌≡◌, ◌<◌, ◌||◌, ◌∷◌, ◌++◌, ◌+◌, ◌-◌}
+use Rattle.class_table.specs.MroMerge.Lists.{numbers}
 use Rattle.class_table.proofs.MroMerge.Struck.{same_tests}
 
 pub past-nil : (u : List ℕ) → past [] u ≡ u

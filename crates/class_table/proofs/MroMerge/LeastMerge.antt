@@ -1,14 +1,6 @@
 -- The least order of a class is the class and then the merge of its bases' linearisations and its bases.
-use Rattle.std.proofs.Common.{◌≡◌, ℕ, suc, ◌≤◌, true, cond, List, [], ◌∷◌, ◌++◌, length, Option, Some, None, inl, inr, refl, sym, ap, subst, ◌∙◌, arith}
-use Rattle.std.specs.Prelude.{option_map}
-use Rattle.std.specs.List.{flat_map}
-use Rattle.std.proofs.lemmas.Bool.{both_ways, cases_Bool, or_cases, and_parts, ltb-true}
-use Rattle.class_model.specs.Order.{has, rank, ranks, members_of, is_lexicographic, least_order, Includes, Subsequence, IsOrder}
-use Rattle.class_table.specs.MroMerge.Steps.{merge}
-use Rattle.class_model.proofs.Held.{Includes-equal, Includes-flat_map, from_flat_map, Includes-left, Includes-right, Includes-sides, Subsequence-more, Subsequence-holds, Subsequence-rest}
-use Rattle.class_model.proofs.Tests.{Decides-has}
-use Rattle.class_model.proofs.Arranged.{least_order-order, least_order-none, least_order-least}
-use Rattle.class_table.specs.MroMerge.Merge.{IsMerge}
+use Rattle.class_table.proofs.Below.{ℕ, suc, true, cond, List, [], length, Option, Some, None, inl, inr, refl, sym, ap, subst, ◌∙◌, arith, option_map, flat_map, both_ways, cases_Bool, or_cases, and_parts, ltb-true, has, rank, ranks, members_of, is_lexicographic, least_order, Includes, Subsequence, IsOrder, merge, Includes-equal, Includes-flat_map, from_flat_map, Includes-left, Includes-right, Includes-sides, Subsequence-more, Subsequence-holds, Subsequence-rest, Decides-has, least_order-order, least_order-none, least_order-least, IsMerge}
+use Rattle.std.proofs.Common.{◌≡◌, ◌≤◌, ◌∷◌, ◌++◌}
 use Rattle.class_table.proofs.MroMerge.Merged.{merge-sound, merge-best, merge-none}
 
 module _ (c : ℕ) (bs : List ℕ) (ls : List (List ℕ)) (apart : (l : List ℕ) → Includes ls l → Includes l c → ⊥) (based : (b : ℕ) → Includes bs b → (l : List ℕ) × Includes ls l × Includes l b) where

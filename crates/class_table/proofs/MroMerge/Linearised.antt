@@ -1,13 +1,6 @@
 -- What is merged is the least merge, and merges with the same ranks are the same.
-use Rattle.std.proofs.Common.{◌≡◌, ℕ, suc, Bool, true, false, cond, List, [], ◌∷◌, length, Option, Some, None, inl, inr, refl, sym, ap, subst, ◌∙◌, arith}
-use Rattle.std.proofs.lemmas.Bool.{both_ways, cases_Bool}
-use Rattle.class_model.specs.Order.{has, rank, ranks, is_lexicographic, Includes}
-use Rattle.class_model.specs.Class.{past_first}
-use Rattle.class_model.proofs.Held.{Includes-equal, Includes-sides}
-use Rattle.class_model.proofs.Tests.{Decides-has}
-use Rattle.class_model.proofs.Lexicographic.{other_way}
-use Rattle.class_table.specs.MroMerge.Merge.{members, IsMerge, IsLeastMerge, HasNoMerge, DifferByRanks}
-use Rattle.class_table.specs.MroMerge.Steps.{struck, merged}
+use Rattle.class_table.proofs.Below.{ℕ, suc, Bool, true, false, cond, List, [], length, Option, Some, None, inl, inr, refl, sym, ap, subst, ◌∙◌, arith, both_ways, cases_Bool, has, rank, ranks, is_lexicographic, Includes, past_first, Includes-equal, Includes-sides, Decides-has, other_way, members, IsMerge, IsLeastMerge, HasNoMerge, DifferByRanks, struck, merged}
+use Rattle.std.proofs.Common.{◌≡◌, ◌∷◌}
 use Rattle.class_table.proofs.MroMerge.Struck.{ranks-struck}
 use Rattle.class_table.proofs.MroMerge.Merged.{Free, first-free, struck-rest, merge-sound, merge-best, merge-none}
 

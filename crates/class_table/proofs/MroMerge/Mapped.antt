@@ -1,14 +1,7 @@
 -- Lists mapped in place, one after the other.
-use Rattle.std.proofs.Common.{◌≡◌, ℕ, zero, suc, false, ◌+◌, ◌<◌, List, [], ◌∷◌, ◌++◌, length, get_or, set, map, take, drop, Option, Some, None, refl, sym, ap, ◌∙◌, arith, append_assoc}
-use Rattle.std.specs.Prelude.{option_map}
-use Rattle.std.specs.Global.{Vec}
-use Rattle.py_node.specs.declared.refs.PyTypeRef.{PyTypeRef}
-use Rattle.class_model.specs.Order.{has}
-use Rattle.class_model.specs.Class.{past_first}
-use Rattle.class_model.specs.Change.{stands_past}
-use Rattle.class_table.specs.MroMerge.Lists.{numbers, rows}
-use Rattle.std.proofs.lemmas.Bool.{or_parts}
-use Rattle.std.proofs.lemmas.List.{length-append, take-append-drop, map-set, get_or-map, drop_more, map_more, set_at, get_or_at, length-map, length-take-le}
+use Rattle.class_table.proofs.Below.{ℕ, zero, suc, false, List, [], length, get_or, set, map, take, drop, Option, Some, None, refl, sym, ap, ◌∙◌, arith, append_assoc, option_map, Vec, PyTypeRef, has, past_first, stands_past, rows, or_parts, length-append, take-append-drop, map-set, get_or-map, drop_more, map_more, set_at, get_or_at, length-map, length-take-le}
+use Rattle.std.proofs.Common.{◌≡◌, ◌+◌, ◌<◌, ◌∷◌, ◌++◌}
+use Rattle.class_table.specs.MroMerge.Lists.{numbers}
 
 pub mapped-step : {A : Type 0} (f : A → A) (orig cur : List A) (i : ℕ) (d : A) → i < length orig → cur ≡ map f (take i orig) ++ drop i orig → set cur i (f (get_or cur i d)) ≡ map f (take (i + 1) orig) ++ drop (i + 1) orig
 mapped-step {A = A} f orig cur i d l is =

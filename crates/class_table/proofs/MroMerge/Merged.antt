@@ -1,15 +1,6 @@
 -- The merge is the least of all merges, or there is none.
-use Rattle.std.proofs.Common.{◌≡◌, ℕ, zero, suc, ◌<◌, ◌≤◌, Bool, true, false, cond, not, ◌||◌, List, [], ◌∷◌, length, Option, Some, None, ◌⊎◌, inl, inr, refl, sym, ap, subst, ◌∙◌, arith}
-use Rattle.std.specs.Prelude.{option_map}
-use Rattle.std.specs.List.{flat_map}
-use Rattle.std.proofs.lemmas.Bool.{eq-eqb, ne_eqb, le-ltb, cases_eq, or_parts, or_from, false_from_ne_true, false≢true}
-use Rattle.class_model.specs.Order.{has, rank, ranks, is_lexicographic, without, Includes, Distinct, Subsequence}
-use Rattle.class_model.specs.Class.{past_first}
-use Rattle.class_model.specs.Change.{stands_past}
-use Rattle.class_table.specs.MroMerge.Merge.{IsMerge}
-use Rattle.class_table.specs.MroMerge.Steps.{first_free, are_empty, struck, after, merge}
-use Rattle.class_model.proofs.Held.{Includes-equal, from_flat_map, Includes-map, Includes-right, Includes-sides, Includes-without, from_without, length-without, Subsequence-holds}
-use Rattle.class_model.proofs.Tests.{Decides-has}
+use Rattle.class_table.proofs.Below.{ℕ, zero, suc, Bool, true, false, cond, not, List, [], length, Option, Some, None, inl, inr, refl, sym, ap, subst, ◌∙◌, arith, option_map, flat_map, eq-eqb, ne_eqb, le-ltb, cases_eq, or_parts, or_from, false_from_ne_true, false≢true, has, rank, ranks, is_lexicographic, without, Includes, Distinct, Subsequence, past_first, stands_past, IsMerge, first_free, are_empty, struck, after, merge, Includes-equal, from_flat_map, Includes-map, Includes-right, Includes-sides, Includes-without, from_without, length-without, Subsequence-holds, Decides-has}
+use Rattle.std.proofs.Common.{◌≡◌, ◌<◌, ◌≤◌, ◌||◌, ◌∷◌, ◌⊎◌}
 use Rattle.class_table.proofs.MroMerge.Struck.{without-none, without-head, Distinct-without, Subsequence-without, flat-struck, struck-back, ranks-struck}
 
 -- a member stands past no head

@@ -1,13 +1,6 @@
 -- Where a base stands twice, or past the head of a later base's line, no class has an order.
-use Rattle.std.proofs.Common.{◌≡◌, ℕ, true, List, [], ◌∷◌, Option, Some, None, inl, inr, refl, sym, subst}
-use Rattle.std.proofs.lemmas.Bool.{or_cases}
-use Rattle.class_model.specs.Order.{has, least_order, Includes, Distinct, Subsequence, BeginsWith, IsOrder}
-use Rattle.class_model.specs.Class.{past_first}
-use Rattle.class_model.specs.Change.{stands_past, breaks_precedence}
-use Rattle.class_model.proofs.Held.{Includes-equal, Subsequence-holds, Subsequence-skip}
-use Rattle.class_model.proofs.Tests.{Decides-has}
-use Rattle.class_model.proofs.Arranged.{least_order-order}
-use Rattle.class_table.specs.MroMerge.Merge.{AreLinesOf, IsFirstRepeat, HasNoOrder}
+use Rattle.class_table.proofs.Below.{ℕ, true, List, [], Option, Some, None, inl, inr, refl, sym, subst, or_cases, has, least_order, Includes, Distinct, Subsequence, BeginsWith, IsOrder, past_first, stands_past, breaks_precedence, Includes-equal, Subsequence-holds, Subsequence-skip, Decides-has, least_order-order, AreLinesOf, IsFirstRepeat, HasNoOrder}
+use Rattle.std.proofs.Common.{◌≡◌, ◌∷◌}
 use Rattle.class_table.proofs.MroMerge.Repeats.{repeat-differs}
 
 one-of : (d : ℕ) (xs : List ℕ) → Includes xs d → Subsequence (d ∷ []) xs

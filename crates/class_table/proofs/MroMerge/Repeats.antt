@@ -1,11 +1,6 @@
 -- The base that stands twice.
-use Rattle.std.proofs.Common.{◌≡◌, ℕ, Bool, true, false, cond, List, [], ◌∷◌, ◌++◌, Some, None, inl, inr, refl, sym, ap, subst, ◌∙◌, append_assoc, append-nil}
-use Rattle.std.proofs.lemmas.Bool.{both_ways, false_from_ne_true}
-use Rattle.class_model.specs.Order.{has, Includes, Distinct}
-use Rattle.class_model.proofs.Held.{Includes-right, Includes-sides}
-use Rattle.class_model.proofs.Tests.{Decides-has}
-use Rattle.class_table.specs.MroMerge.Merge.{IsFirstRepeat}
-use Rattle.class_table.specs.MroMerge.Steps.{repeat_past}
+use Rattle.class_table.proofs.Below.{ℕ, Bool, true, false, cond, List, [], Some, None, inl, inr, refl, sym, ap, subst, ◌∙◌, append_assoc, append-nil, both_ways, false_from_ne_true, has, Includes, Distinct, Includes-right, Includes-sides, Decides-has, IsFirstRepeat, repeat_past}
+use Rattle.std.proofs.Common.{◌≡◌, ◌∷◌, ◌++◌}
 
 Distinct-middle : (seen : List ℕ) (y : ℕ) (more : List ℕ) → Distinct (seen ++ y ∷ more) → Includes seen y → ⊥
 Distinct-middle [] y more d h = h

@@ -1,16 +1,11 @@
 -- What the merge of the bases' linearisations answers, of the bases.
-use Rattle.std.proofs.Common.{◌≡◌, ℕ, cond, List, Result, Ok, Err, refl, sym, ap, ◌∙◌}
-use Rattle.std.specs.Prelude.{◌↔◌, IfOk, IfErr}
-use Rattle.std.specs.Global.{Vec}
+use Rattle.class_table.proofs.Below.{ℕ, cond, List, Result, Ok, Err, refl, sym, ap, ◌∙◌, IfOk, IfErr, Vec, PyTypeRef, Distinct, breaks_precedence, order_cause, MroFault, OutOfMemory, heads, with_heads, IsLeastMerge, AreOutOfOrder, IsConflict, AreLinesOf, IsFirstRepeat, IsBrokenPrecedence, IsOrderConflict, IsRest, HasNoOrder, OnRefusal, Tells}
+use Rattle.std.proofs.Common.{◌≡◌}
+use Rattle.std.specs.Prelude.{◌↔◌}
 use Rattle.py_node.specs.declared.raised.Cause.TheVariants as causes
-use Rattle.py_node.specs.declared.refs.PyTypeRef.{PyTypeRef}
-use Rattle.class_model.specs.Order.{Distinct}
-use Rattle.class_model.specs.Change.{breaks_precedence, order_cause}
-use Rattle.class_table.specs.declared.mro_merge.fault.MroFault.{MroFault}
-use Rattle.class_table.specs.declared.mro_merge.fault.MroFault.TheVariants.{DuplicateBase, LocalPrecedence, MroConflict, OutOfMemory}
+use Rattle.class_table.specs.declared.mro_merge.fault.MroFault.TheVariants.{DuplicateBase, LocalPrecedence, MroConflict}
 use Rattle.class_table.specs.MroMerge.Lists.{numbers}
-use Rattle.class_table.specs.MroMerge.Merge.{heads, with_heads, IsLeastMerge, AreOutOfOrder, IsConflict, AreLinesOf, IsFirstRepeat, IsBrokenPrecedence, IsOrderConflict, IsRest, HasNoOrder}
-use Rattle.class_table.specs.MroMerge.Faults.{WithMemory, OnRefusal, Tells}
+use Rattle.class_table.specs.MroMerge.Faults.{WithMemory}
 use Rattle.class_table.proofs.MroMerge.Repeats.{repeat-differs}
 use Rattle.class_table.proofs.MroMerge.Precedence.{broken-none}
 use Rattle.class_table.proofs.MroMerge.Bases.{heads-bases, merge-rest, conflict-none}

@@ -1,14 +1,7 @@
 -- The merge, a step at a time.
-use Rattle.std.proofs.Common.{◌≡◌, ℕ, zero, suc, ◌<◌, ◌≤◌, true, false, cond, List, [], ◌∷◌, ◌++◌, length, Option, Some, None, inl, inr, refl, sym, ap, ◌∙◌, arith}
-use Rattle.std.specs.Prelude.{option_map}
-use Rattle.std.specs.List.{flat_map}
-use Rattle.std.proofs.lemmas.Bool.{both_ways}
-use Rattle.class_model.specs.Order.{ranks, least_order, Includes}
-use Rattle.class_model.specs.Change.{stands_past}
-use Rattle.class_table.specs.MroMerge.Steps.{first_free, are_empty, struck, after, merge, merged}
-use Rattle.class_model.proofs.Held.{length-without}
+use Rattle.class_table.proofs.Below.{ℕ, zero, suc, true, false, cond, List, [], length, Option, Some, None, inl, inr, refl, sym, ap, ◌∙◌, arith, option_map, flat_map, both_ways, ranks, least_order, Includes, stands_past, first_free, are_empty, struck, after, merge, merged, length-without, other_way}
+use Rattle.std.proofs.Common.{◌≡◌, ◌<◌, ◌≤◌, ◌∷◌, ◌++◌}
 use Rattle.class_table.proofs.MroMerge.Struck.{flat-struck}
-use Rattle.class_model.proofs.Lexicographic.{other_way}
 use Rattle.class_table.proofs.MroMerge.LeastMerge.{least_order-merge}
 use Rattle.class_table.proofs.MroMerge.Merged.{merge-sound, merge-best, merge-none, first-some, free-to}
 

@@ -1,12 +1,6 @@
 -- Lists of which a member is struck out.
-use Rattle.std.proofs.Common.{◌≡◌, ℕ, Bool, true, false, cond, not, eqb, List, [], ◌∷◌, ◌++◌, inl, inr, refl, sym, ap, subst, ◌∙◌}
-use Rattle.std.specs.List.{flat_map}
-use Rattle.std.proofs.lemmas.Bool.{eq-eqb, ne_eqb}
-use Rattle.std.proofs.lemmas.List.Elements.{filter-append}
-use Rattle.class_model.specs.Order.{has, rank, ranks, without, Includes, Distinct, Subsequence}
-use Rattle.class_table.specs.MroMerge.Steps.{struck}
-use Rattle.class_model.proofs.Held.{Includes-without, from_without, Subsequence-more}
-use Rattle.class_model.proofs.Tests.{Decides-has}
+use Rattle.class_table.proofs.Below.{ℕ, Bool, true, false, cond, not, eqb, List, [], inl, inr, refl, sym, ap, subst, ◌∙◌, flat_map, eq-eqb, ne_eqb, filter-append, has, rank, ranks, without, Includes, Distinct, Subsequence, struck, Includes-without, from_without, Subsequence-more, Decides-has}
+use Rattle.std.proofs.Common.{◌≡◌, ◌∷◌, ◌++◌}
 
 -- nothing to strike
 pub without-none : (x : ℕ) (l : List ℕ) → (Includes l x → ⊥) → without x l ≡ l

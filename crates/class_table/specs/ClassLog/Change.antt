@@ -1,11 +1,5 @@
 -- A change of classes, as a log has it.
-use Rattle.std.specs.Prelude.{ℕ, List, Option, string_bytes}
-use Rattle.std.specs.Global.{Vec}
-use Rattle.py_node.specs.declared.refs.PyObjectRef.{PyObjectRef}
-use Rattle.py_node.specs.declared.refs.PyStrInterned.{PyStrInterned}
-use Rattle.py_node.specs.declared.refs.PyTypeRef.{PyTypeRef}
-use Rattle.py_node.specs.declared.flags.PyTypeFlags.{PyTypeFlags}
-use Rattle.py_node.specs.Tree.{Text}
+use Rattle.class_table.specs.Below.{ℕ, List, Option, string_bytes, Vec, PyObjectRef, PyStrInterned, PyTypeRef, PyTypeFlags, Text}
 use Rattle.class_table.specs.Keys.{numbers, slot_names}
 use Rattle.class_table.specs.declared.class_log.change.ClassChange.{ClassChange}
 use Rattle.class_table.specs.declared.class_log.change.ClassChange.TheVariants as change

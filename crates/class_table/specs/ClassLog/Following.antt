@@ -1,5 +1,6 @@
 -- A list of changes that follows a log.
-use Rattle.std.specs.Prelude.{◌≡◌, ℕ, List, ◌++◌, Some, slice_get}
+use Rattle.class_table.specs.Below.{ℕ, List, Some, slice_get}
+use Rattle.std.specs.Prelude.{◌≡◌, ◌++◌}
 use Rattle.class_table.specs.ClassLog.Change.{Change}
 use Rattle.class_table.specs.ClassLog.Shown.{shown}
 use Rattle.class_table.specs.ClassLog.Refused.{AreMade}

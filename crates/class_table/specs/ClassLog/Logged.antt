@@ -1,12 +1,6 @@
 -- A log whose changes were made in order, and the classes to which they led.
-use Rattle.std.specs.Prelude.{◌≡◌, ℕ, ◌==◌, ◌||◌, Bool, true, false, List, [], ◌∷◌, map, Option, None}
-use Rattle.std.specs.Int.RustNames.{bit_and}
-use Rattle.py_node.specs.declared.refs.PyObjectRef.{PyObjectRef}
-use Rattle.py_node.specs.declared.refs.PyStrInterned.{PyStrInterned}
-use Rattle.py_node.specs.BuiltIns.{heap_flags, heap_type}
-use Rattle.py_node.specs.Tree.{Text}
-use Rattle.class_model.specs.Class.{Class, Classes}
-use Rattle.class_model.specs.Dict.{any_has_dict, slots_bring}
+use Rattle.class_table.specs.Below.{ℕ, Bool, true, false, List, [], map, Option, None, bit_and, PyObjectRef, PyStrInterned, heap_flags, heap_type, Text, Class, Classes, any_has_dict, slots_bring}
+use Rattle.std.specs.Prelude.{◌≡◌, ◌==◌, ◌||◌, ◌∷◌}
 use Rattle.class_table.specs.Keys.{table_keys}
 use Rattle.class_table.specs.OneBase.{says_so, static_flags}
 use Rattle.class_table.specs.ClassLog.Change.{Change, Make}

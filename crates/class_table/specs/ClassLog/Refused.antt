@@ -1,11 +1,6 @@
 -- What a change asks of the classes to which it is made, and why it is refused.
-use Rattle.std.specs.Prelude.{◌≡◌, ℕ, ◌≤◌, ◌||◌, Bool, true, false, cond, List, [], ◌∷◌, Option, None, option_map}
-use Rattle.py_node.specs.declared.raised.Cause.{Cause}
-use Rattle.py_node.specs.declared.refs.PyStrInterned.{PyStrInterned}
-use Rattle.py_node.specs.BuiltIns.{heap_flags}
-use Rattle.class_model.specs.Class.{Classes, is_class}
-use Rattle.class_model.specs.Dict.{any_has_dict, slots_bring}
-use Rattle.class_model.specs.Numbers.{limit}
+use Rattle.class_table.specs.Below.{ℕ, Bool, true, false, cond, List, [], Option, None, option_map, Cause, PyStrInterned, heap_flags, Classes, is_class, any_has_dict, slots_bring, limit}
+use Rattle.std.specs.Prelude.{◌≡◌, ◌≤◌, ◌||◌, ◌∷◌}
 use Rattle.class_table.specs.Keys.{table_keys}
 use Rattle.class_table.specs.OneBase.{refused_single}
 use Rattle.class_table.specs.Rebase.{Refusal, refused_rebase}

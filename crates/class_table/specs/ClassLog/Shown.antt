@@ -1,12 +1,6 @@
 -- The classes that a list of changes shows.
-use Rattle.std.specs.Prelude.{◌==◌, Bool, cond, List, [], fold}
-use Rattle.std.specs.Int.RustNames.{bit_and}
-use Rattle.py_node.specs.declared.refs.PyStrInterned.{PyStrInterned}
-use Rattle.py_node.specs.Attributes.{is_same_name}
-use Rattle.py_node.specs.BuiltIns.{heap_type}
-use Rattle.class_model.specs.Class.{Class, Classes}
-use Rattle.class_model.specs.Dict.{heap_class, any_has_dict}
-use Rattle.class_model.specs.Change.{with_class, with_class_attr, without_class_attr, with_bases}
+use Rattle.class_table.specs.Below.{Bool, cond, List, [], fold, bit_and, PyStrInterned, is_same_name, heap_type, Class, Classes, heap_class, any_has_dict, with_class, with_class_attr, without_class_attr, with_bases}
+use Rattle.std.specs.Prelude.{◌==◌}
 use Rattle.class_table.specs.Start.{start_classes}
 use Rattle.class_table.specs.Keys.{table_keys}
 use Rattle.class_table.specs.OneBase.{says_so, static_flags}

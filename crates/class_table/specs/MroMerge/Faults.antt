@@ -1,6 +1,6 @@
 -- How a merge is refused.
-use Rattle.std.specs.Prelude.{◌≡◌, Result, Ok, Err}
-use Rattle.py_node.specs.declared.raised.Cause.{Cause}
+use Rattle.class_table.specs.Below.{Result, Ok, Err, Cause}
+use Rattle.std.specs.Prelude.{◌≡◌}
 use Rattle.py_node.specs.declared.raised.Cause.TheVariants as causes
 use Rattle.class_table.specs.declared.mro_merge.fault.MroFault.{MroFault}
 use Rattle.class_table.specs.declared.mro_merge.fault.MroFault.TheVariants.{DuplicateBase, LocalPrecedence}

@@ -1,7 +1,5 @@
 -- Classes by their numbers.
-use Rattle.std.specs.Prelude.{ℕ, List, map, Option, option_map}
-use Rattle.std.specs.Global.{Vec}
-use Rattle.py_node.specs.declared.refs.PyTypeRef.{PyTypeRef}
+use Rattle.class_table.specs.Below.{ℕ, List, map, Option, option_map, Vec, PyTypeRef}
 
 abbrev pub numbers : List PyTypeRef → List ℕ
 numbers cs = map (λ c. c.0) cs

@@ -1,9 +1,6 @@
 -- What a merge of linearisations is.
-use Rattle.std.specs.Prelude.{◌≡◌, ℕ, false, List, [], ◌∷◌, ◌++◌, Some, None, IsTrue}
-use Rattle.std.specs.List.{flat_map}
-use Rattle.class_model.specs.Order.{Includes, Distinct, Subsequence, BeginsWith, unique, ranks, is_lexicographic}
-use Rattle.class_model.specs.Order.{least_order, IsOrder, IsLeastOrder}
-use Rattle.class_model.specs.Change.{breaks_precedence}
+use Rattle.class_table.specs.Below.{ℕ, false, List, [], Some, None, IsTrue, flat_map, Includes, Distinct, Subsequence, BeginsWith, unique, ranks, is_lexicographic, least_order, IsOrder, IsLeastOrder, breaks_precedence}
+use Rattle.std.specs.Prelude.{◌≡◌, ◌∷◌, ◌++◌}
 
 -- all members of some lists
 abbrev pub members : List (List ℕ) → List ℕ

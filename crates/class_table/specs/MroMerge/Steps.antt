@@ -1,8 +1,6 @@
 -- The merge, a member at a time. No public contract names these.
-use Rattle.std.specs.Prelude.{ℕ, zero, suc, Bool, true, false, not, cond, Option, Some, None, option_map}
-use Rattle.std.specs.Prelude.{List, [], ◌∷◌, ◌++◌, map, filter, length}
-use Rattle.class_model.specs.Order.{has, without}
-use Rattle.class_model.specs.Change.{stands_past}
+use Rattle.class_table.specs.Below.{ℕ, zero, suc, Bool, true, false, not, cond, Option, Some, None, option_map, List, [], map, filter, length, has, without, stands_past}
+use Rattle.std.specs.Prelude.{◌∷◌, ◌++◌}
 use Rattle.class_table.specs.MroMerge.Merge.{members}
 
 -- the first head that stands past no head

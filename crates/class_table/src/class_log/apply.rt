@@ -1,10 +1,7 @@
 //! Changes, made to a table of classes.
 
-ghost use Rattle.std.specs.Prelude.{◌≡◌, ◌≤◌, true, IfOk, OnOk, OnErr};
-ghost use Rattle.class_model.specs.Class.{is_class};
-ghost use Rattle.class_model.specs.Numbers.{limit};
-ghost use Rattle.class_model.specs.Dict.{heap_class, has_dict};
-ghost use Rattle.class_model.specs.Change.{with_class, with_bases};
+ghost use Rattle.class_table.specs.Below.{true, IfOk, OnOk, OnErr, is_class, limit, heap_class, has_dict, with_class, with_bases};
+ghost use Rattle.std.specs.Prelude.{◌≡◌, ◌≤◌};
 ghost use Rattle.class_table.specs.Keys.{numbers, slot_names, table_keys};
 ghost use Rattle.class_table.specs.OneBase.{refused_single, single_class, static_flags, says_so};
 ghost use Rattle.class_table.specs.Rebase.{told, refused_rebase};

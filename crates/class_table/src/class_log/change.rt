@@ -1,6 +1,7 @@
 //! Changes of classes, each with all that is needed to make it once more.
 
-ghost use Rattle.std.specs.Prelude.{◌≡◌, IfOk};
+ghost use Rattle.class_table.specs.Below.{IfOk};
+ghost use Rattle.std.specs.Prelude.{◌≡◌};
 ghost use Rattle.class_table.specs.Keys.{slot_names};
 ghost use Rattle.class_table.specs.ClassLog.Change.{change_of};
 

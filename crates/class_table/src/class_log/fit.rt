@@ -1,6 +1,7 @@
 //! Whether a change can be made to a table of classes: what it names is there.
 
-ghost use Rattle.std.specs.Prelude.{◌↔◌, IsTrue};
+ghost use Rattle.class_table.specs.Below.{IsTrue};
+ghost use Rattle.std.specs.Prelude.{◌↔◌};
 ghost use Rattle.class_table.specs.Keys.{numbers};
 ghost use Rattle.class_table.specs.Refused.{AreThere};
 ghost use Rattle.class_table.specs.ClassLog.Change.{change_of, made_of};

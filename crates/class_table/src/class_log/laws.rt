@@ -1,6 +1,6 @@
 //! What is so of every log.
 
-ghost use Rattle.std.specs.Prelude.{List};
+ghost use Rattle.class_table.specs.Below.{List};
 ghost use Rattle.class_table.specs.ClassLog.Change.{Change};
 ghost use Rattle.class_table.specs.ClassLog.Following.{BeginsWith, Keeps, CanFollow};
 ghost use Rattle.class_table.specs.ClassLog.Refused.{AreMade};

@@ -1,11 +1,7 @@
 //! A log of the changes of a table of classes: each change is made and noted, or neither.
 
-ghost use Rattle.std.specs.Prelude.{◌≡◌, ◌≤◌, ◌+◌, ◌*◌, ◌||◌, ◌++◌, ◌∷◌, [], map, length, is_some, true, false, Ok, None, option_map, IfOk, OnOk, OnErr, IsSome};
-ghost use Rattle.py_node.specs.Attributes.{is_same_name};
-ghost use Rattle.class_model.specs.Class.{class_at, is_class, own_of};
-ghost use Rattle.class_model.specs.Change.{with_class, with_class_attr, without_class_attr, with_bases};
-ghost use Rattle.class_model.specs.Dict.{heap_class, has_dict};
-ghost use Rattle.class_model.specs.Numbers.{limit};
+ghost use Rattle.class_table.specs.Below.{[], map, length, is_some, true, false, Ok, None, option_map, IfOk, OnOk, OnErr, IsSome, is_same_name, class_at, is_class, own_of, with_class, with_class_attr, without_class_attr, with_bases, heap_class, has_dict, limit};
+ghost use Rattle.std.specs.Prelude.{◌≡◌, ◌≤◌, ◌+◌, ◌*◌, ◌||◌, ◌++◌, ◌∷◌};
 ghost use Rattle.class_table.specs.Descendants.{descendants};
 ghost use Rattle.class_table.specs.Keys.{numbers, slot_names, table_keys};
 ghost use Rattle.class_table.specs.OneBase.{refused_single, single_class, says_so};

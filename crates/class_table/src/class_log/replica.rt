@@ -1,6 +1,7 @@
 //! A list of changes, and the table of classes that it leads to.
 
-ghost use Rattle.std.specs.Prelude.{◌≡◌, ◌+◌, ◌++◌, ◌∷◌, ◌↔◌, [], map, length, IsTrue, IfOk, OnOk, OnErr};
+ghost use Rattle.class_table.specs.Below.{[], map, length, IsTrue, IfOk, OnOk, OnErr};
+ghost use Rattle.std.specs.Prelude.{◌≡◌, ◌+◌, ◌++◌, ◌∷◌, ◌↔◌};
 ghost use Rattle.class_table.specs.Rebase.{told};
 ghost use Rattle.class_table.specs.Refused.{WithMemory};
 ghost use Rattle.class_table.specs.ClassLog.Change.{change_of};

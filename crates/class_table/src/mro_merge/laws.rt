@@ -1,8 +1,7 @@
 //! The order of classes that several lists allow.
 
-ghost use Rattle.std.specs.Prelude.{◌≡◌, ◌↔◌, [], Err, IfOk, IfErr};
-ghost use Rattle.py_node.specs.declared.refs.PyTypeRef.{PyTypeRef};
-ghost use Rattle.class_model.specs.Change.{breaks_precedence, order_cause};
+ghost use Rattle.class_table.specs.Below.{[], Err, IfOk, IfErr, PyTypeRef, breaks_precedence, order_cause};
+ghost use Rattle.std.specs.Prelude.{◌≡◌, ◌↔◌};
 ghost use Rattle.class_table.specs.declared.mro_merge.fault.MroFault.TheVariants.{DuplicateBase, LocalPrecedence, MroConflict};
 ghost use Rattle.class_table.specs.MroMerge.Lists.{numbers, number_of, rows};
 ghost use Rattle.class_table.specs.MroMerge.Faults.{WithMemory, OnRefusal, Tells};

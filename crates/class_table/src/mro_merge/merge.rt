@@ -1,9 +1,7 @@
 //! The merge, a member at a time.
 
-ghost use Rattle.std.specs.Prelude.{◌≡◌, false, IfOk, is_some, option_map};
-ghost use Rattle.class_model.specs.Order.{has, without, unique};
-ghost use Rattle.class_model.specs.Class.{past_first};
-ghost use Rattle.class_model.specs.Change.{stands_past};
+ghost use Rattle.class_table.specs.Below.{false, IfOk, is_some, option_map, has, without, unique, past_first, stands_past};
+ghost use Rattle.std.specs.Prelude.{◌≡◌};
 ghost use Rattle.class_table.specs.MroMerge.Lists.{numbers, number_of, rows};
 ghost use Rattle.class_table.specs.MroMerge.Merge.{heads, AreLines};
 ghost use Rattle.class_table.specs.MroMerge.Steps.{first_free, are_empty, struck, merged};

@@ -1,22 +1,8 @@
 -- A comparison begins as is said of what it takes.
-use Rattle.std.proofs.Common.{◌≡◌, [], ◌∷◌, Ok, Err, IfOk, sym, ap, subst}
+use Rattle.native_containers.proofs.Below.{[], Ok, Err, IfOk, sym, ap, subst, Vec, CompareNative, NativeEntry, OutOfMemory, PyObjectRef, PyStrInterned, Step, PlainWorld, PlainTask, ReadObjects, Said, ToNative, Pending, fresh, World, Reading, bindings, plain, ComparedKept, items_compared, with_items, Begins, Compares, StepsAt, compare_native_say, compared_job_say}
+use Rattle.std.proofs.Common.{◌≡◌, ◌∷◌}
 use Rattle.std.specs.Prelude.{Result}
-use Rattle.std.specs.Global.{Vec}
-use Rattle.py_node.specs.declared.entry.CompareNative.{CompareNative}
-use Rattle.py_node.specs.declared.entry.NativeEntry.{NativeEntry}
-use Rattle.py_node.specs.declared.memory.OutOfMemory.{OutOfMemory}
-use Rattle.py_node.specs.declared.refs.PyObjectRef.{PyObjectRef}
-use Rattle.py_node.specs.declared.refs.PyStrInterned.{PyStrInterned}
-use Rattle.py_node.specs.declared.task.Step.{Step}
 use Rattle.py_node.specs.declared.task.Task.TheVariants as task
-use Rattle.plain_machine.specs.Plain.{PlainWorld, PlainTask, ReadObjects, Said, ToNative}
-use Rattle.plain_machine.specs.Rows.{Pending, fresh}
-use Rattle.class_world.specs.declared.world.World.{World}
-use Rattle.class_world.specs.Reading.{Reading, bindings, plain}
-use Rattle.native_containers.specs.declared.native_compare.ComparedKept.{ComparedKept}
-use Rattle.native_containers.specs.NativeCompare.Containers.{items_compared, with_items}
-use Rattle.native_containers.specs.NativeCompare.Rows.{Begins, Compares, StepsAt}
-use Rattle.native_containers.specs.NativeCompare.Say.{compare_native_say, compared_job_say}
 
 module _ (n : NativeEntry) (m : CompareNative) (args : Vec PyObjectRef) (kw : Vec (PyStrInterned × PyObjectRef)) (said : Reading → PlainWorld → Said) (w : World) where
   begins : (step : Step ComparedKept) → ((t : Reading) (u : PlainWorld) → compare_native_say u n args.items (bindings t kw.items) ≡ with_items (said t u) (items_compared u m)) → Compares m said w step → Begins (task.Native n args kw) w w step

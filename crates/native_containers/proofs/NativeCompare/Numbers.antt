@@ -1,5 +1,6 @@
 -- Numbers that are compared with themselves.
-use Rattle.std.proofs.Common.{◌≡◌, ℕ, true, false, nat_lt, nat_le, eqb, arith}
+use Rattle.native_containers.proofs.Below.{ℕ, true, false, nat_lt, eqb, arith}
+use Rattle.std.proofs.Common.{◌≡◌, nat_le}
 
 pub not-less : (n : ℕ) → nat_lt n n ≡ false
 not-less n = grind arith

@@ -1,30 +1,11 @@
 -- Items that are asked in turn, from a point of a row.
-use Rattle.std.proofs.Common.{◌≡◌, ℕ, suc, ◌+◌, ◌<◌, ◌≤◌, Bool, true, false, cond, List, [], ◌∷◌, ◌++◌, length, get_or, drop, zip, Ok, refl, sym, ap, ◌∙◌, subst, arith, append_assoc}
-use Rattle.std.proofs.lemmas.List.{drop_all}
-use Rattle.std.proofs.Math.Seq.{drop-cons}
+use Rattle.native_containers.proofs.Below.{ℕ, suc, Bool, true, false, cond, List, [], length, get_or, drop, zip, Ok, refl, sym, ap, ◌∙◌, subst, arith, append_assoc, drop_all, drop-cons, CompareNative, CompareTask, Raised as Fault, PyObjectRef, Answer, Value, Step, Ask, End, PlainWorld, PlainTask, ToCompare, Answered, ReadObjects, Ended, Told, Said, Asks, Ends, none, noting, truth, Alike, Pending, World, Reading, compare_job, ended_of, plain, ComparedKept, Way, Equal, Less, Greater, Turns, Objects, Pairs, asked, both_read, by_turns, in_turn, turns_of, Compares, Comparing, StepsAt, TakesTurn, Turning, compared_stands, even, firsts, seconds, compared_job_say}
+use Rattle.std.proofs.Common.{◌≡◌, ◌+◌, ◌<◌, ◌≤◌, ◌∷◌, ◌++◌}
 use Rattle.std.specs.Prelude.{Result}
-use Rattle.py_node.specs.declared.entry.CompareNative.{CompareNative}
-use Rattle.py_node.specs.declared.protocol.CompareTask.{CompareTask}
-use Rattle.py_node.specs.declared.raised.Raised.{Raised as Fault}
-use Rattle.py_node.specs.declared.refs.PyObjectRef.{PyObjectRef}
-use Rattle.py_node.specs.declared.task.Answer.{Answer}
-use Rattle.py_node.specs.declared.task.Answer.TheVariants.{Value}
-use Rattle.py_node.specs.declared.task.Step.{Step}
-use Rattle.py_node.specs.declared.task.Step.TheVariants.{Ask, End}
 use Rattle.py_node.specs.declared.task.Task.TheVariants as task
-use Rattle.plain_machine.specs.Plain.{PlainWorld, PlainTask, ToCompare, Answered, ReadObjects, Ended, Told, Said, Asks, Ends}
-use Rattle.plain_machine.specs.Row.{none, noting, truth}
-use Rattle.plain_machine.specs.Rows.{Alike, Pending}
-use Rattle.class_world.specs.declared.world.World.{World}
-use Rattle.class_world.specs.Reading.{Reading, compare_job, ended_of, plain}
-use Rattle.native_containers.specs.declared.native_compare.ComparedKept.{ComparedKept}
-use Rattle.native_containers.specs.declared.native_compare.way.Way.{Way}
-use Rattle.native_containers.specs.declared.native_compare.way.Way.TheVariants.{Equal, Less, Greater}
-use Rattle.native_containers.specs.declared.native_compare.way.Turns.{Turns}
 use Rattle.native_containers.specs.declared.native_compare.way.Turns.TheVariants as turns
-use Rattle.native_containers.specs.NativeCompare.Containers.{Objects, Pairs, answered, asked, both_read, by_turns, in_turn, turns_of}
-use Rattle.native_containers.specs.NativeCompare.Rows.{Compares, Comparing, Resumes, StepsAt, TakesTurn, Turning, compared_stands, even, firsts, left, seconds}
-use Rattle.native_containers.specs.NativeCompare.Say.{compared_job_say}
+use Rattle.native_containers.specs.NativeCompare.Containers.{answered}
+use Rattle.native_containers.specs.NativeCompare.Rows.{Resumes, left}
 use Rattle.native_containers.proofs.NativeCompare.Numbers.{at-most, not-less, same-number}
 
 -- pairs taken apart, and put together again

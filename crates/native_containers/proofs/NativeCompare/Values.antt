@@ -1,14 +1,6 @@
 -- The values under the keys of entries, one after another.
-use Rattle.std.proofs.Common.{◌≡◌, ℕ, suc, ◌+◌, ◌<◌, ◌≤◌, List, [], ◌∷◌, ◌++◌, length, get_or, drop, map, Option, Some, None, refl, sym, ap, ◌∙◌, arith, append_assoc}
-use Rattle.std.specs.Prelude.{option_map, option_and_then}
-use Rattle.std.proofs.lemmas.List.{drop_all}
-use Rattle.std.proofs.Math.Seq.{drop-cons}
-use Rattle.py_node.specs.declared.refs.PyObjectRef.{PyObjectRef}
-use Rattle.plain_machine.specs.Dicts.{Entries}
-use Rattle.plain_machine.specs.Plain.{PlainWorld}
-use Rattle.row_kit.specs.GiveContainers.{keys_of}
-use Rattle.native_containers.specs.Say.{value_under}
-use Rattle.native_containers.specs.NativeCompare.Containers.{Objects, values_under}
+use Rattle.native_containers.proofs.Below.{ℕ, suc, List, [], length, get_or, drop, map, Option, Some, None, refl, sym, ap, ◌∙◌, arith, append_assoc, option_map, option_and_then, drop_all, drop-cons, PyObjectRef, Entries, PlainWorld, keys_of, value_under, Objects, values_under}
+use Rattle.std.proofs.Common.{◌≡◌, ◌+◌, ◌<◌, ◌≤◌, ◌∷◌, ◌++◌}
 
 -- these, and then the values that are left
 abbrev pub after : Objects → Option Objects → Option Objects

@@ -1,14 +1,6 @@
 -- What is taken is what the arguments are.
-use Rattle.std.proofs.Common.{◌≡◌, Bool, true, false, cond, List, [], ◌∷◌, Ok}
-use Rattle.py_node.specs.declared.refs.PyObjectRef.{PyObjectRef}
-use Rattle.py_node.specs.declared.raised.Cause.TheVariants.{SelfType}
-use Rattle.plain_machine.specs.Plain.{PlainWorld, Bindings, AsObjects, Said, Ends}
-use Rattle.plain_machine.specs.Row.{fault}
-use Rattle.plain_machine.specs.Takes.{with_one, with_two, with_three}
-use Rattle.plain_machine.specs.World.{datum_at}
-use Rattle.row_kit.specs.declared.take_containers.Kind.{Kind}
-use Rattle.row_kit.specs.TakeContainers.{is_of}
-use Rattle.native_containers.specs.Take.{with_lone, with_own_and, with_own_and_two}
+use Rattle.native_containers.proofs.Below.{Bool, true, false, cond, List, [], Ok, PyObjectRef, SelfType, PlainWorld, Bindings, AsObjects, Said, Ends, fault, with_one, with_two, with_three, datum_at, Kind, is_of, with_lone, with_own_and, with_own_and_two}
+use Rattle.std.proofs.Common.{◌≡◌, ◌∷◌}
 
 -- ends with what was taken
 abbrev told : PlainWorld → List PyObjectRef → Said

@@ -1,22 +1,8 @@
 -- How natives end that change an item of a list in place.
-use Rattle.std.proofs.Common.{◌≡◌, ℕ, zero, suc, ◌-◌, ◌<◌, true, List, [], ◌∷◌, length, Some, sym, ap, ◌∙◌, arith}
-use Rattle.std.specs.List.{remove}
-use Rattle.std.specs.Prelude.{nat_le, Result}
-use Rattle.py_node.specs.declared.raised.Raised.{Raised as Fault}
-use Rattle.py_node.specs.declared.refs.PyObjectRef.{PyObjectRef}
-use Rattle.py_node.specs.declared.task.Answer.{Answer}
-use Rattle.plain_machine.specs.Objects.{with_datum}
-use Rattle.plain_machine.specs.Plain.{AList, PlainWorld, Ended, Said, Ends}
-use Rattle.plain_machine.specs.Row.{most_items}
-use Rattle.class_world.specs.declared.world.World.{World}
-use Rattle.class_world.specs.Reading.{Reading, Reads, plain}
-use Rattle.class_world.specs.Rows.{EndsAs}
-use Rattle.native_containers.specs.Say.{list_changed, unless_long}
-use Rattle.row_kit.specs.TakeContainers.{items_at}
+use Rattle.native_containers.proofs.Below.{ℕ, zero, suc, true, List, [], length, Some, sym, ap, ◌∙◌, arith, remove, nat_le, Raised as Fault, PyObjectRef, Answer, with_datum, AList, PlainWorld, Ended, Said, Ends, most_items, World, Reading, Reads, plain, EndsAs, list_changed, unless_long, items_at, then-ends, placed, place_at}
+use Rattle.std.proofs.Common.{◌≡◌, ◌-◌, ◌<◌, ◌∷◌}
+use Rattle.std.specs.Prelude.{Result}
 use Rattle.native_containers.proofs.Changed.{short}
-use Rattle.row_kit.proofs.ContainersEnds.{then-ends}
-use Rattle.native_containers.specs.NativeItems.Items.{placed}
-use Rattle.native_containers.specs.NativeItems.Places.{place_at}
 
 abbrev Items : Type 0
 Items = List PyObjectRef

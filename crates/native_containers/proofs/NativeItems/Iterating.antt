@@ -1,32 +1,7 @@
 -- What an iterator that is asked for its next item does.
-use Rattle.std.proofs.Common.{◌≡◌, ◌∙◌, ℕ, [], ◌∷◌, None, Ok, Err, refl, ap, sym}
+use Rattle.native_containers.proofs.Below.{◌∙◌, ℕ, [], None, Ok, Err, refl, ap, sym, encode_utf8, Next, OfIterator, GetItem, known_text, SequenceIterator, IterEnd, PyObjectRef, raised, Value, Step, Ask, End, Task, the_int, the_str, Bindings, ANumber, AText, Asks, DoSpecial, ToAttribute, ToNative, Ends, value, fault, Alike, datum_at, next_node, with_node, World, Reading, Reads, plain, task_of, Nothing, Item, Character, Unknown, ItemKept, Iterating, found_in, moved_past, next_in, next_place, with_place, Does, item_stands, item_job_say}
+use Rattle.std.proofs.Common.{◌≡◌, ◌∷◌}
 use Rattle.std.specs.Prelude.{pos}
-use Rattle.std.specs.Char.{encode_utf8}
-use Rattle.py_node.specs.declared.entry.IteratorNative.TheVariants.{Next}
-use Rattle.py_node.specs.declared.entry.NativeEntry.TheVariants.{OfIterator}
-use Rattle.py_node.specs.declared.known.Known.TheVariants.{GetItem}
-use Rattle.py_node.specs.Known.{known_text}
-use Rattle.py_node.specs.declared.payload.SequenceIterator.{SequenceIterator}
-use Rattle.py_node.specs.declared.raised.Cause.TheVariants.{IterEnd}
-use Rattle.py_node.specs.declared.refs.PyObjectRef.{PyObjectRef}
-use Rattle.py_node.specs.Faults.{raised}
-use Rattle.py_node.specs.declared.task.Answer.TheVariants.{Value}
-use Rattle.py_node.specs.declared.task.Step.{Step}
-use Rattle.py_node.specs.declared.task.Step.TheVariants.{Ask, End}
-use Rattle.py_node.specs.declared.task.Task.{Task}
-use Rattle.plain_machine.specs.Known.{the_int, the_str}
-use Rattle.plain_machine.specs.Plain.{Bindings, ANumber, AText, Asks, DoSpecial, ToAttribute, ToNative, Ends}
-use Rattle.plain_machine.specs.Row.{value, fault}
-use Rattle.plain_machine.specs.Rows.{Alike}
-use Rattle.plain_machine.specs.World.{datum_at, next_node, with_node}
-use Rattle.class_world.specs.declared.world.World.{World}
-use Rattle.class_world.specs.Reading.{Reading, Reads, plain, task_of}
-use Rattle.native_containers.specs.declared.native_items.next.Found.TheVariants.{Nothing, Item, Character, Unknown}
-use Rattle.native_containers.specs.declared.native_items.ItemKept.{ItemKept}
-use Rattle.native_containers.specs.declared.native_items.ItemKept.TheVariants.{Iterating}
-use Rattle.native_containers.specs.NativeItems.Iterators.{found_in, moved_past, next_in, next_place, with_place}
-use Rattle.native_containers.specs.NativeItems.Rows.{Does, item_stands}
-use Rattle.native_containers.specs.NativeItems.Say.{item_job_say}
 use Rattle.native_containers.proofs.NativeItems.Steps.{ends-does, made-does}
 
 iterating-alike : (o : PyObjectRef) (t : Reading) (kw : Bindings) → Alike item_job_say (record { task = ToNative (OfIterator Next) (o ∷ []) kw; told = [] }) (item_stands t (Iterating o))

@@ -1,13 +1,6 @@
 -- Parts of lists of nodes, and such lists with others in the place of some.
-use Rattle.std.proofs.Common.{ℕ, zero, suc, ◌<◌, ◌-◌, List, [], ◌∷◌, ◌++◌, arith, length, take, drop}
-use Rattle.std.specs.Prelude.{max, slice_get, slice_range, slice_set}
-use Rattle.std.proofs.lemmas.List.Elements.{All-append, All-drop, All-set, All-take}
-use Rattle.py_node.specs.declared.refs.PyObjectRef.{PyObjectRef}
-use Rattle.class_world.specs.Held.{Held}
-use Rattle.class_world.specs.Sound.{AllHold, AreNodes, Holds, IsNode}
-use Rattle.native_containers.specs.NativeItems.Iterators.{item_found}
-use Rattle.native_containers.specs.NativeItems.Places.{put_between}
-use Rattle.native_containers.specs.NativeItems.Rows.{of_found}
+use Rattle.native_containers.proofs.Below.{ℕ, zero, suc, List, [], arith, length, take, drop, max, slice_get, slice_range, slice_set, All-append, All-drop, All-set, All-take, PyObjectRef, Held, AllHold, AreNodes, Holds, IsNode, item_found, put_between, of_found}
+use Rattle.std.proofs.Common.{◌<◌, ◌-◌, ◌∷◌, ◌++◌}
 
 module _ (w : Held) (rs : List PyObjectRef) (h : Holds w (AreNodes rs)) where
   pub range-nodes : (start stop : ℕ) → Holds w (AreNodes (slice_range rs start stop))

@@ -1,28 +1,10 @@
 -- How a search goes from one item to the next.
-use Rattle.std.proofs.Common.{◌≡◌, ◌∙◌, ℕ, zero, suc, ◌+◌, Option, Some, None, List, [], ◌∷◌, Ok, drop, refl, sym, ap, subst, add-one, false}
-use Rattle.std.specs.Prelude.{slice_get}
-use Rattle.std.specs.Global.{Vec}
+use Rattle.native_containers.proofs.Below.{◌∙◌, ℕ, zero, suc, Option, Some, None, List, [], Ok, drop, refl, sym, ap, subst, add-one, false, slice_get, Vec, OfTuple, IdEq, PyObjectRef, Truth, Value, Ask, Bindings, AsTruth, Answered, DoIdEq, Ends, ReadObjects, ToCompare, ToNative, truth, value, read_objects, Alike, ref, World, Reading, plain, Steps, items_at, Sequence, Searching, is_among, look_for, Does, item_stands, next_asked, searcher_of, item_job_say}
+use Rattle.std.proofs.Common.{◌≡◌, ◌+◌, ◌∷◌}
 use Rattle.py_node.specs.declared.entry.TupleNative.TheVariants as tuple
-use Rattle.py_node.specs.declared.entry.NativeEntry.TheVariants.{OfTuple}
-use Rattle.py_node.specs.declared.protocol.CompareTask.TheVariants.{IdEq}
-use Rattle.py_node.specs.declared.refs.PyObjectRef.{PyObjectRef}
-use Rattle.py_node.specs.declared.task.Answer.TheVariants.{Truth, Value}
-use Rattle.py_node.specs.declared.task.Step.TheVariants.{Ask}
 use Rattle.py_node.specs.declared.task.Task.TheVariants as task
-use Rattle.plain_machine.specs.Plain.{Bindings, AsTruth, Answered, DoIdEq, Ends, ReadObjects, ToCompare, ToNative}
-use Rattle.plain_machine.specs.Row.{truth, value, read_objects}
-use Rattle.plain_machine.specs.Rows.{Alike}
-use Rattle.plain_machine.specs.World.{ref}
-use Rattle.class_world.specs.declared.world.World.{World}
-use Rattle.class_world.specs.Reading.{Reading, plain}
-use Rattle.class_world.specs.Rows.{Steps}
-use Rattle.row_kit.specs.TakeContainers.{items_at}
-use Rattle.native_containers.specs.declared.native_items.get.Sequence.{Sequence}
 use Rattle.native_containers.specs.declared.native_items.get.Sequence.TheVariants as sequence
-use Rattle.native_containers.specs.declared.native_items.ItemKept.TheVariants.{Searching}
-use Rattle.native_containers.specs.NativeItems.Items.{is_among, look_for}
-use Rattle.native_containers.specs.NativeItems.Rows.{Does, Resumes, item_stands, next_asked, searcher_of}
-use Rattle.native_containers.specs.NativeItems.Say.{item_job_say}
+use Rattle.native_containers.specs.NativeItems.Rows.{Resumes}
 use Rattle.native_containers.proofs.NativeItems.Steps.{asks-does, ends-does, ends-resumes}
 
 -- what is left at a place

@@ -1,23 +1,9 @@
 -- How natives go on that kept the items that stood in an object at the start, or did not.
-use Rattle.std.proofs.Common.{◌≡◌, ◌∙◌, ap, Bool, List, [], ◌∷◌, ◌++◌, Option, Some, None, refl}
-use Rattle.std.specs.Global.{Vec}
+use Rattle.native_containers.proofs.Below.{◌∙◌, ap, Bool, List, [], Option, Some, None, refl, Vec, OfTuple, OfList, PyObjectRef, PySlice, PlainWorld, Bindings, Ended, Said, Asks, Answered, DoCollect, DoIndex, ToNative, ToProtocol, Alike, ref, Reading, Sequence, Getting, Setting, Deleting, Extending, is_plain, slice_at, del_asked, del_item, del_rest, extend, extend_rest, get_item, index_asked, is_number, item_asked, item_got, set_asked, set_item, set_rest, stood, getter_of, item_stands, items_stood, stood_told, item_job_say}
+use Rattle.std.proofs.Common.{◌≡◌, ◌∷◌, ◌++◌}
 use Rattle.py_node.specs.declared.entry.TupleNative.TheVariants as tuple
 use Rattle.py_node.specs.declared.entry.ListNative.TheVariants as list
-use Rattle.py_node.specs.declared.entry.NativeEntry.TheVariants.{OfTuple, OfList}
-use Rattle.py_node.specs.declared.refs.PyObjectRef.{PyObjectRef}
-use Rattle.py_node.specs.declared.payload.PySlice.{PySlice}
-use Rattle.plain_machine.specs.Plain.{PlainWorld, Bindings, Ended, Said, Asks, Answered, DoCollect, DoIndex, ToNative, ToProtocol}
-use Rattle.plain_machine.specs.Rows.{Alike}
-use Rattle.plain_machine.specs.World.{ref}
-use Rattle.class_world.specs.Reading.{Reading}
-use Rattle.native_containers.specs.declared.native_items.get.Sequence.{Sequence}
 use Rattle.native_containers.specs.declared.native_items.get.Sequence.TheVariants as sequence
-use Rattle.native_containers.specs.declared.native_items.ItemKept.TheVariants.{Getting, Setting, Deleting, Extending}
-use Rattle.row_kit.specs.ProtoBase.Entered.{is_plain}
-use Rattle.native_containers.specs.NativeItems.Places.{slice_at}
-use Rattle.native_containers.specs.NativeItems.Items.{del_asked, del_item, del_rest, extend, extend_rest, get_item, index_asked, is_number, item_asked, item_got, set_asked, set_item, set_rest, stood}
-use Rattle.native_containers.specs.NativeItems.Rows.{getter_of, item_stands, items_stood, stood_told}
-use Rattle.native_containers.specs.NativeItems.Say.{item_job_say}
 
 -- they go on as they would from the start
 pub getting-alike : (s : Sequence) (o k : PyObjectRef) (stood : Option (Vec PyObjectRef)) (t : Reading) (kw : Bindings) → Alike item_job_say (record { task = ToNative (getter_of s) (o ∷ k ∷ []) kw; told = stood_told stood }) (item_stands t (Getting o stood))

@@ -1,25 +1,7 @@
 -- How the steps of these natives follow from what their parts do.
-use Rattle.std.proofs.Common.{◌≡◌, ◌∙◌, List, [], ◌∷◌, ◌++◌, Result, Ok, Err, IfOk, refl, sym, subst}
-use Rattle.py_node.specs.declared.raised.Raised.{Raised as Fault}
-use Rattle.py_node.specs.declared.entry.NativeEntry.{NativeEntry}
-use Rattle.py_node.specs.declared.memory.OutOfMemory.{OutOfMemory}
-use Rattle.py_node.specs.declared.refs.PyStrInterned.{PyStrInterned}
-use Rattle.py_node.specs.declared.refs.PyObjectRef.{PyObjectRef}
-use Rattle.py_node.specs.declared.task.Answer.{Answer}
-use Rattle.py_node.specs.declared.task.Task.{Task}
-use Rattle.py_node.specs.declared.task.Step.{Step}
-use Rattle.py_node.specs.declared.task.Step.TheVariants.{Ask, End}
-use Rattle.plain_machine.specs.Plain.{PlainWorld, PlainTask, Bindings, Said, Asks, Ends, Told, Answered, ToNative}
-use Rattle.plain_machine.specs.Row.{Row}
-use Rattle.plain_machine.specs.Rows.{Alike}
-use Rattle.class_world.specs.declared.world.World.{World}
-use Rattle.class_world.specs.Reading.{Reading, Reads, bindings, plain, task_of, ended_of}
-use Rattle.class_world.specs.Rows.{EndsAs, Steps}
-use Rattle.row_kit.specs.declared.take_containers.Kind.{Kind}
-use Rattle.native_containers.specs.Take.{with_lone, with_own_and, with_own_and_two}
-use Rattle.native_containers.specs.declared.native_items.ItemKept.{ItemKept}
-use Rattle.native_containers.specs.NativeItems.Rows.{Does, Enters, Resumes, item_stands}
-use Rattle.native_containers.specs.NativeItems.Say.{item_job_say}
+use Rattle.native_containers.proofs.Below.{◌∙◌, List, [], Result, Ok, Err, IfOk, refl, sym, subst, Raised as Fault, NativeEntry, OutOfMemory, PyStrInterned, PyObjectRef, Answer, Task, Step, Ask, End, PlainWorld, PlainTask, Bindings, Said, Asks, Ends, Told, Answered, ToNative, Row, Alike, World, Reading, Reads, bindings, plain, task_of, ended_of, EndsAs, Steps, Kind, with_lone, with_own_and, with_own_and_two, ItemKept, Does, Enters, item_stands, item_job_say}
+use Rattle.std.proofs.Common.{◌≡◌, ◌∷◌, ◌++◌}
+use Rattle.native_containers.specs.NativeItems.Rows.{Resumes}
 use Rattle.native_containers.proofs.NativeItems.Arguments.{lone-arguments, two-arguments, three-arguments}
 
 -- a native ends at once as is said

@@ -1,33 +1,10 @@
 -- How containers ask for the texts of their parts.
-use Rattle.std.proofs.Common.{◌≡◌, ◌∙◌, ℕ, zero, suc, ◌+◌, List, [], ◌∷◌, ◌++◌, drop, map, Some, None, Result, Ok, Err, IfOk, refl, sym, subst, ap, append_assoc, append-nil, arith}
-use Rattle.std.specs.Prelude.{slice_get}
-use Rattle.py_node.specs.declared.raised.Raised.{Raised as Fault}
-use Rattle.py_node.specs.declared.memory.OutOfMemory.{OutOfMemory}
-use Rattle.py_node.specs.declared.refs.PyObjectRef.{PyObjectRef}
-use Rattle.py_node.specs.declared.refs.PyStrInterned.{PyStrInterned}
-use Rattle.py_node.specs.declared.task.Answer.{Answer}
-use Rattle.py_node.specs.declared.task.Answer.TheVariants.{Method, Value}
+use Rattle.native_containers.proofs.Below.{◌∙◌, ℕ, zero, suc, List, [], drop, map, Some, None, Result, Ok, Err, IfOk, refl, sym, subst, ap, append_assoc, append-nil, arith, slice_get, Raised as Fault, OutOfMemory, PyObjectRef, PyStrInterned, Answer, Method, Value, Step, Ask, End, PlainWorld, Bindings, Ended, Said, Ends, Told, Answered, ReadObjects, ToNative, Row, end, none, noting, on_value, World, Reading, bindings, plain, ended_of, EndsAs, with_lone, as_said, each_value, Texts, PartsKept, Container, Parts, IsNoObject, Resumes, Starts, Takes, answered, left, parts_stands, repr_of, parts_job_say, kind_of, parts_at, repr_task, text_ends, text_row}
+use Rattle.std.proofs.Common.{◌≡◌, ◌+◌, ◌∷◌, ◌++◌}
 use Rattle.py_node.specs.declared.task.PyMethod.TheVariants as method
 use Rattle.py_node.specs.declared.protocol.ObjectTask.TheVariants as object
 use Rattle.py_node.specs.declared.task.Task.TheVariants as task
-use Rattle.py_node.specs.declared.task.Step.{Step}
-use Rattle.py_node.specs.declared.task.Step.TheVariants.{Ask, End}
-use Rattle.plain_machine.specs.Plain.{PlainWorld, Bindings, Ended, Said, Ends, Told, Answered, ReadObjects, ToNative}
-use Rattle.plain_machine.specs.Row.{Row, end, none, noting, on_value}
-use Rattle.class_world.specs.declared.world.World.{World}
-use Rattle.class_world.specs.Reading.{Reading, bindings, plain, ended_of}
-use Rattle.class_world.specs.Rows.{EndsAs}
-use Rattle.native_containers.specs.Take.{with_lone}
-use Rattle.row_kit.specs.Asking.{as_said}
-use Rattle.row_kit.specs.ProtoBase.Each.{each_value}
-use Rattle.native_containers.specs.declared.native_parts.PartsKept.TheVariants.{Texts}
-use Rattle.native_containers.specs.declared.native_parts.PartsKept.{PartsKept}
-use Rattle.native_containers.specs.declared.native_parts.take.Container.{Container}
 use Rattle.native_containers.specs.declared.native_parts.take.Container.TheVariants as container
-use Rattle.native_containers.specs.declared.native_parts.texts.Parts.{Parts}
-use Rattle.native_containers.specs.NativeParts.Rows.{IsNoObject, Resumes, Starts, Takes, answered, left, parts_stands, repr_of}
-use Rattle.native_containers.specs.NativeParts.Say.{parts_job_say}
-use Rattle.native_containers.specs.NativeParts.Texts.{kind_of, parts_at, repr_task, text_ends, text_row}
 use Rattle.native_containers.proofs.NativeParts.Steps.{ends-starts, ends-takes, reading-starts-ok, resumes-goes, resumes-takes}
 
 -- what stands at a place and past it

@@ -1,14 +1,7 @@
 -- What containers hold, as their parts.
-use Rattle.std.proofs.Common.{◌≡◌, ◌<◌, [], ◌∷◌, length, map, Some, refl}
-use Rattle.std.proofs.lemmas.List.Elements.{All-nil, All-cons, All-head, All-tail}
-use Rattle.py_node.specs.declared.refs.PyObjectRef.{PyObjectRef}
-use Rattle.py_node.specs.declared.payload.Payload.{Payload}
+use Rattle.native_containers.proofs.Below.{[], length, map, Some, refl, All-nil, All-cons, All-head, All-tail, PyObjectRef, Payload, Entries, Held, Reading, datum, AreNodes, Holds, flattened, parts_in}
+use Rattle.std.proofs.Common.{◌≡◌, ◌<◌, ◌∷◌}
 use Rattle.py_node.specs.declared.payload.Payload.TheVariants as payload
-use Rattle.plain_machine.specs.Dicts.{Entries}
-use Rattle.class_world.specs.Held.{Held}
-use Rattle.class_world.specs.Reading.{Reading, datum}
-use Rattle.class_world.specs.Sound.{AreNodes, Holds}
-use Rattle.native_containers.specs.NativeParts.Texts.{flattened, parts_in}
 
 -- what is no container has no parts
 pub no-parts : (t : Reading) (p : Payload) → ((rs : _) → p ≡ payload.Tuple rs → ⊥) → ((rs : _) → p ≡ payload.List rs → ⊥) → ((es : _) → p ≡ payload.Dict es → ⊥) → parts_in (Some (datum t p)) ≡ []

@@ -1,9 +1,6 @@
 -- What is taken where there may be one argument more.
-use Rattle.std.proofs.Common.{◌≡◌, List, [], ◌∷◌, length, refl, arith}
-use Rattle.py_node.specs.declared.refs.PyObjectRef.{PyObjectRef}
-use Rattle.plain_machine.specs.Plain.{PlainWorld, Bindings, Said}
-use Rattle.plain_machine.specs.Takes.{with_one, with_two}
-use Rattle.native_containers.specs.NativeParts.Makers.{with_one_at_most}
+use Rattle.native_containers.proofs.Below.{List, [], length, refl, arith, PyObjectRef, PlainWorld, Bindings, Said, with_one, with_two, with_one_at_most}
+use Rattle.std.proofs.Common.{◌≡◌, ◌∷◌}
 
 -- two are an object and an argument
 pub two-given : (w : PlainWorld) (rs : List PyObjectRef) (kw : Bindings) (without : Said) (go : PyObjectRef → Said) → length rs ≡ 2 → with_one_at_most w rs kw without go ≡ with_two w rs kw (λ o a. go a)

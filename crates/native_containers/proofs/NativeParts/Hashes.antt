@@ -1,32 +1,12 @@
 -- How a tuple asks for the hashes of its items.
-use Rattle.std.proofs.Common.{◌≡◌, ◌∙◌, List, [], ◌∷◌, ◌++◌, drop, ℤ, pos, ◌+ℤ◌, ◌-ℤ◌, ◌*ℤ◌, Result, Ok, Err, refl, sym, subst, ap, arith}
-use Rattle.std.specs.Int.{w64, int_wrap}
-use Rattle.std.proofs.lemmas.Int.{int_wrap-add_same, int_wrap-mul_left, ints}
-use Rattle.py_node.specs.declared.raised.Raised.{Raised as Fault}
-use Rattle.py_node.specs.declared.refs.PyObjectRef.{PyObjectRef}
-use Rattle.py_node.specs.declared.refs.PyStrInterned.{PyStrInterned}
-use Rattle.py_node.specs.declared.entry.NativeEntry.TheVariants.{OfTuple}
+use Rattle.native_containers.proofs.Below.{◌∙◌, List, [], drop, ℤ, pos, Result, Ok, Err, refl, sym, subst, ap, arith, w64, int_wrap, int_wrap-add_same, int_wrap-mul_left, ints, Raised as Fault, PyObjectRef, PyStrInterned, OfTuple, Answer, Method, Number, Step, Ask, End, PlainWorld, Bindings, Ended, Said, Ends, Told, Answered, ReadObjects, ToNative, Row, end, noting, on_number, World, Reading, bindings, plain, ended_of, with_lone, number_hash, PartsKept, Hashes, Hashing, IsNoNumber, Resumes, Starts, Takes, left_to_hash, parts_stands, parts_job_say, hash_row, parts_at}
+use Rattle.std.proofs.Common.{◌≡◌, ◌∷◌, ◌++◌, ◌+ℤ◌, ◌-ℤ◌, ◌*ℤ◌}
 use Rattle.py_node.specs.declared.entry.TupleNative.TheVariants as tuple
-use Rattle.py_node.specs.declared.task.Answer.{Answer}
-use Rattle.py_node.specs.declared.task.Answer.TheVariants.{Method, Number}
 use Rattle.py_node.specs.declared.task.PyMethod.TheVariants as method
 use Rattle.py_node.specs.declared.protocol.ObjectTask.TheVariants as object
 use Rattle.py_node.specs.declared.task.Task.TheVariants as task
-use Rattle.py_node.specs.declared.task.Step.{Step}
-use Rattle.py_node.specs.declared.task.Step.TheVariants.{Ask, End}
-use Rattle.plain_machine.specs.Plain.{PlainWorld, Bindings, Ended, Said, Ends, Told, Answered, ReadObjects, ToNative}
-use Rattle.plain_machine.specs.Row.{Row, end, noting, on_number}
-use Rattle.class_world.specs.declared.world.World.{World}
-use Rattle.class_world.specs.Reading.{Reading, bindings, plain, ended_of}
 use Rattle.row_kit.specs.declared.take_containers.Kind.TheVariants as kind
-use Rattle.native_containers.specs.Take.{with_lone}
-use Rattle.row_kit.specs.IntValues.{number_hash}
-use Rattle.native_containers.specs.declared.native_parts.PartsKept.{PartsKept}
-use Rattle.native_containers.specs.declared.native_parts.PartsKept.TheVariants.{Hashes}
-use Rattle.native_containers.specs.declared.native_parts.hash.Hashing.{Hashing}
-use Rattle.native_containers.specs.NativeParts.Rows.{IsNoNumber, Resumes, Starts, Takes, left_to_hash, parts_stands}
-use Rattle.native_containers.specs.NativeParts.Say.{parts_job_say}
-use Rattle.native_containers.specs.NativeParts.Texts.{hash_row, hashed_on, parts_at}
+use Rattle.native_containers.specs.NativeParts.Texts.{hashed_on}
 use Rattle.native_containers.proofs.NativeParts.Steps.{ends-starts, reading-starts, resumes-takes}
 
 -- a hash is a number that is wrapped in 64 bits

@@ -1,30 +1,7 @@
 -- What makes numbers, truth values, texts and tuples: what it says, and how it goes on.
-use Rattle.std.proofs.Common.{◌≡◌, ◌∙◌, ℕ, ℤ, pos, false, cond, List, [], ◌∷◌, ◌++◌, Option, Some, None, Ok, Err, refl, ap}
-use Rattle.std.proofs.lemmas.Bool.{eq-eqb, ne_eqb}
+use Rattle.native_containers.proofs.Below.{◌∙◌, ℕ, ℤ, pos, false, cond, List, [], Option, Some, None, Ok, Err, refl, ap, eq-eqb, ne_eqb, NewOf, SelfType, PyObjectRef, PyTypeRef, Value, End, raised, Text, the_int, the_str, class_object, ANumber, AText, ATuple, PlainWorld, Bindings, DoWhole, DoIsTrue, DoStr, DoCollect, ToObject, ToProtocol, ToNative, Ended, Said, Ends, Told, Answered, ReadObjects, pass, truth, value, datum_at, next_node, number_of, ref, with_node, World, Reading, Reads, plain, object_made, with_heir, NewInt, NewBool, NewStr, NewTuple, asks_for, str_made, with_one_at_most, int_made_of, int_of_class, Resumes, parts_stands, parts_job_say, text_at}
+use Rattle.std.proofs.Common.{◌≡◌, ◌∷◌, ◌++◌}
 use Rattle.py_node.specs.declared.built_in.BuiltIn.TheVariants as built_in
-use Rattle.py_node.specs.declared.entry.NativeEntry.TheVariants.{NewOf}
-use Rattle.py_node.specs.declared.raised.Cause.TheVariants.{SelfType}
-use Rattle.py_node.specs.declared.refs.PyObjectRef.{PyObjectRef}
-use Rattle.py_node.specs.declared.refs.PyTypeRef.{PyTypeRef}
-use Rattle.py_node.specs.declared.task.Answer.TheVariants.{Value}
-use Rattle.py_node.specs.declared.task.Step.TheVariants.{End}
-use Rattle.py_node.specs.Faults.{raised}
-use Rattle.py_node.specs.Tree.{Text}
-use Rattle.plain_machine.specs.Known.{the_int, the_str}
-use Rattle.plain_machine.specs.Objects.{class_object}
-use Rattle.plain_machine.specs.Plain.{ANumber, AText, ATuple, PlainWorld, Bindings, DoWhole, DoIsTrue, DoStr, DoCollect, ToObject, ToProtocol, ToNative, Ended, Said, Ends, Told, Answered, ReadObjects}
-use Rattle.plain_machine.specs.Row.{pass, truth, value}
-use Rattle.plain_machine.specs.World.{datum_at, next_node, number_of, ref, with_node}
-use Rattle.class_world.specs.declared.world.World.{World}
-use Rattle.class_world.specs.Reading.{Reading, Reads, plain}
-use Rattle.row_kit.specs.Say.{object_made}
-use Rattle.row_kit.specs.TakeClasses.{with_heir}
-use Rattle.native_containers.specs.declared.native_parts.PartsKept.TheVariants.{NewInt, NewBool, NewStr, NewTuple}
-use Rattle.native_containers.specs.NativeParts.Makers.{asks_for, str_made, with_one_at_most}
-use Rattle.native_containers.specs.NativeParts.Numbers.{int_made_of, int_of_class}
-use Rattle.native_containers.specs.NativeParts.Rows.{Resumes, parts_stands}
-use Rattle.native_containers.specs.NativeParts.Say.{parts_job_say}
-use Rattle.native_containers.specs.NativeParts.Texts.{text_at}
 use Rattle.native_containers.proofs.NativeParts.Made.{made-so, resumes-end}
 
 -- what is made of nothing, and what is asked of an argument

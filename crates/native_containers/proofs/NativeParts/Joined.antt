@@ -1,16 +1,6 @@
 -- The text of a container, as it is put together.
-use Rattle.std.proofs.Common.{◌≡◌, ◌∙◌, ℕ, suc, ◌+◌, ◌<◌, ◌≤◌, true, false, cond, List, ◌∷◌, ◌++◌, length, get_or, drop, Ok, Err, nat_le, refl, sym, ap, arith, append_assoc, append-nil, length-append}
-use Rattle.std.proofs.Common.{tests}
-use Rattle.std.proofs.lemmas.List.{drop_all, drop_more, length-map}
-use Rattle.py_node.specs.declared.raised.Cause.TheVariants.{TooLong}
-use Rattle.py_node.specs.declared.refs.PyObjectRef.{PyObjectRef}
-use Rattle.py_node.specs.Faults.{raised}
-use Rattle.py_node.specs.Tree.{Text}
-use Rattle.plain_machine.specs.Plain.{PlainWorld}
-use Rattle.plain_machine.specs.Row.{fault, most_items}
-use Rattle.row_kit.specs.Say.{in_length}
-use Rattle.native_containers.specs.declared.native_parts.take.Container.{Container}
-use Rattle.native_containers.specs.NativeParts.Texts.{before, closing, container_text, opening, text_at, texts_at, texts_from}
+use Rattle.native_containers.proofs.Below.{◌∙◌, ℕ, suc, true, false, cond, List, length, get_or, drop, Ok, Err, refl, sym, ap, arith, append_assoc, append-nil, length-append, tests, drop_all, drop_more, length-map, TooLong, PyObjectRef, raised, Text, PlainWorld, fault, most_items, in_length, Container, before, closing, container_text, opening, text_at, texts_at, texts_from}
+use Rattle.std.proofs.Common.{◌≡◌, ◌+◌, ◌<◌, ◌≤◌, ◌∷◌, ◌++◌, nat_le}
 
 -- so many bytes are not too long, or they are
 pub short : (x : Text) (n : ℕ) → n ≡ length x → nat_le n most_items ≡ true → in_length x ≡ Ok x

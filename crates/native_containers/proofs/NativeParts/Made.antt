@@ -1,36 +1,8 @@
 -- How natives start and go on that make an object, or ask what they make it of.
-use Rattle.std.proofs.Common.{◌≡◌, ◌∙◌, ℕ, List, [], ◌∷◌, ◌++◌, Result, Ok, Err, refl, sym, subst, ap}
-use Rattle.py_node.specs.declared.raised.Raised.{Raised as Fault}
-use Rattle.py_node.specs.declared.built_in.BuiltIn.{BuiltIn}
-use Rattle.py_node.specs.declared.entry.NativeEntry.{NativeEntry}
-use Rattle.py_node.specs.declared.entry.NativeEntry.TheVariants.{NewOf}
-use Rattle.py_node.specs.declared.refs.PyObjectRef.{PyObjectRef}
-use Rattle.py_node.specs.declared.refs.PyStrInterned.{PyStrInterned}
-use Rattle.py_node.specs.declared.task.Answer.{Answer}
-use Rattle.py_node.specs.declared.task.Answer.TheVariants.{Value}
-use Rattle.py_node.specs.declared.task.Step.TheVariants.{Ask, End}
-use Rattle.py_node.specs.declared.task.Task.{Task}
+use Rattle.native_containers.proofs.Below.{◌∙◌, ℕ, List, [], Result, Ok, Err, refl, sym, subst, ap, Raised as Fault, BuiltIn, NativeEntry, NewOf, PyObjectRef, PyStrInterned, Answer, Value, Ask, End, Task, Text, Datum, PlainWorld, Bindings, Ended, Said, Asks, Ends, Told, Answered, ToNative, on_value, pass, value, with_one, next_node, with_node, World, Reading, Reads, bindings, plain, ended_of, task_of, EndsAs, Steps, in_length, object_made, text_made, as_said, with_heir, with_own, PartsKept, Wrapped, Wrapper, Class, Static, with_one_at_most, Resumes, Starts, parts_stands, repr_of_wrapper, parts_job_say, repr_task, text_at, wrapped_in, wrapper_by, wrapper_ends, wrapper_text}
+use Rattle.std.proofs.Common.{◌≡◌, ◌∷◌, ◌++◌}
 use Rattle.py_node.specs.declared.protocol.ObjectTask.TheVariants as object
 use Rattle.py_node.specs.declared.task.Task.TheVariants as task
-use Rattle.py_node.specs.Tree.{Text}
-use Rattle.plain_machine.specs.Plain.{Datum, PlainWorld, Bindings, Ended, Said, Asks, Ends, Told, Answered, ToNative}
-use Rattle.plain_machine.specs.Row.{on_value, pass, value}
-use Rattle.plain_machine.specs.Takes.{with_one}
-use Rattle.plain_machine.specs.World.{next_node, with_node}
-use Rattle.class_world.specs.declared.world.World.{World}
-use Rattle.class_world.specs.Reading.{Reading, Reads, bindings, plain, ended_of, task_of}
-use Rattle.class_world.specs.Rows.{EndsAs, Steps}
-use Rattle.row_kit.specs.Say.{in_length, object_made, text_made}
-use Rattle.row_kit.specs.Asking.{as_said}
-use Rattle.row_kit.specs.TakeClasses.{with_heir, with_own}
-use Rattle.native_containers.specs.declared.native_parts.PartsKept.{PartsKept}
-use Rattle.native_containers.specs.declared.native_parts.PartsKept.TheVariants.{Wrapped}
-use Rattle.native_containers.specs.declared.native_parts.wrapped.Wrapper.{Wrapper}
-use Rattle.native_containers.specs.declared.native_parts.wrapped.Wrapper.TheVariants.{Class, Static}
-use Rattle.native_containers.specs.NativeParts.Makers.{with_one_at_most}
-use Rattle.native_containers.specs.NativeParts.Rows.{Resumes, Starts, parts_stands, repr_of_wrapper}
-use Rattle.native_containers.specs.NativeParts.Say.{parts_job_say}
-use Rattle.native_containers.specs.NativeParts.Texts.{repr_task, text_at, wrapped_in, wrapper_by, wrapper_ends, wrapper_text}
 
 -- an object that was made is said to be made
 pub made-so : (said : Reading → PlainWorld → Said) (old new : World) (c : ℕ) (d : Reading → Datum) (r : PyObjectRef) → ((t : Reading) → said t (plain t old) ≡ object_made (plain t old) c (d t)) → ((t : Reading) → plain t new ≡ with_node (plain t old) c (d t)) → ((t : Reading) → r ≡ next_node (plain t old) c) → (t : Reading) → said t (plain t old) ≡ Ends (plain t new) (value r)

@@ -1,21 +1,6 @@
 -- How the steps of natives follow from those of rows.
-use Rattle.std.proofs.Common.{◌≡◌, ◌∙◌, List, [], ◌∷◌, ◌++◌, Result, Ok, Err, IfOk, refl, sym, subst, ap, append_assoc}
-use Rattle.py_node.specs.declared.raised.Raised.{Raised as Fault}
-use Rattle.py_node.specs.declared.entry.NativeEntry.{NativeEntry}
-use Rattle.py_node.specs.declared.memory.OutOfMemory.{OutOfMemory}
-use Rattle.py_node.specs.declared.refs.PyObjectRef.{PyObjectRef}
-use Rattle.py_node.specs.declared.refs.PyStrInterned.{PyStrInterned}
-use Rattle.py_node.specs.declared.task.Answer.{Answer}
-use Rattle.py_node.specs.declared.task.Step.{Step}
-use Rattle.py_node.specs.declared.task.Step.TheVariants.{Ask, End}
-use Rattle.plain_machine.specs.Plain.{PlainWorld, Bindings, Said, Asks, Ends, Told, Answered, ReadObjects, ToNative}
-use Rattle.plain_machine.specs.Row.{Row, noting}
-use Rattle.class_world.specs.declared.world.World.{World}
-use Rattle.class_world.specs.Reading.{Reading, bindings, plain, ended_of}
-use Rattle.class_world.specs.Rows.{EndsAs, Steps}
-use Rattle.native_containers.specs.declared.native_parts.PartsKept.{PartsKept}
-use Rattle.native_containers.specs.NativeParts.Rows.{Resumes, Starts, Takes, TakesAt, parts_stands}
-use Rattle.native_containers.specs.NativeParts.Say.{parts_job_say}
+use Rattle.native_containers.proofs.Below.{◌∙◌, List, [], Result, Ok, Err, IfOk, refl, sym, subst, ap, append_assoc, Raised as Fault, NativeEntry, OutOfMemory, PyObjectRef, PyStrInterned, Answer, Step, Ask, End, PlainWorld, Bindings, Said, Asks, Ends, Told, Answered, ReadObjects, ToNative, Row, noting, World, Reading, bindings, plain, ended_of, EndsAs, Steps, PartsKept, Resumes, Starts, Takes, TakesAt, parts_stands, parts_job_say}
+use Rattle.std.proofs.Common.{◌≡◌, ◌∷◌, ◌++◌}
 
 -- a native that first reads objects once, and then goes on as a row does
 module _ (n : NativeEntry) (args : List PyObjectRef) (kw : List (PyStrInterned × PyObjectRef)) (rs : List PyObjectRef) (row : PlainWorld → Row) (on : (u : PlainWorld) (b : Bindings) (more : Told) → parts_job_say u (ToNative n args b) (ReadObjects rs ∷ more) ≡ row u more) where

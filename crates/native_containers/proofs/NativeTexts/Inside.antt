@@ -1,12 +1,6 @@
 -- A text stands in another just where it can be cut out of it.
-use Rattle.std.proofs.Common.{◌≡◌, ℕ, Bool, true, false, ◌||◌, ◌⊎◌, eqb, List, [], ◌∷◌, ◌++◌, refl, sym, ap, ap₂, subst, ◌∙◌, arith, inl, inr, ◌↔◌, take, length}
-use Rattle.std.specs.Cmp.Lexicographic.{pointwise}
-use Rattle.std.specs.Str.Iter.{HasSubslice}
-use Rattle.std.specs.List.{starts_with}
-use Rattle.std.proofs.lemmas.Bool.{and_parts}
-use Rattle.std.proofs.lemmas.Bool.Decides.{nat_tests}
-use Rattle.std.proofs.lemmas.Grind.{common_steps}
-use Rattle.native_containers.specs.NativeTexts.Texts.{stands_in}
+use Rattle.native_containers.proofs.Below.{ℕ, Bool, true, false, eqb, List, [], refl, sym, ap, ap₂, subst, ◌∙◌, arith, inl, inr, take, length, pointwise, HasSubslice, starts_with, and_parts, nat_tests, common_steps, stands_in}
+use Rattle.std.proofs.Common.{◌≡◌, ◌||◌, ◌⊎◌, ◌∷◌, ◌++◌, ◌↔◌}
 
 either_true : (p q : Bool) → (p || q) ≡ true → (p ≡ true) ⊎ (q ≡ true)
 either_true true q e = inl refl

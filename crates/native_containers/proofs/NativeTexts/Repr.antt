@@ -1,13 +1,7 @@
 -- A text's Python form is UTF-8.
-use Rattle.std.proofs.Common.{◌≡◌, ℕ, suc, ◌<◌, ◌≤◌, Bool, true, false, cond, nat_lt, List, [], ◌∷◌, ◌++◌, length, get_or, inl, inr, refl, sym, ap₂, subst, arith, append-nil}
-use Rattle.std.specs.Str.{IsUtf8}
-use Rattle.std.specs.List.{flat_map}
-use Rattle.std.proofs.lemmas.Bool.{and_parts, cases_lt}
-use Rattle.std.proofs.lemmas.Bool.Decides.{nat_tests}
-use Rattle.std.proofs.lemmas.List.Concat.{flat_map-append}
-use Rattle.std.proofs.lemmas.Str.{IsUtf8-append, IsUtf8-nil, IsUtf8-encode, encode_ascii, inside_one}
+use Rattle.native_containers.proofs.Below.{ℕ, suc, Bool, true, false, cond, nat_lt, List, [], length, get_or, inl, inr, refl, sym, ap₂, subst, arith, append-nil, IsUtf8, flat_map, and_parts, cases_lt, nat_tests, flat_map-append, IsUtf8-append, IsUtf8-nil, IsUtf8-encode, encode_ascii, inside_one, mark, repr_byte, repr_text}
+use Rattle.std.proofs.Common.{◌≡◌, ◌<◌, ◌≤◌, ◌∷◌, ◌++◌}
 use lib.Utf8.{scalar, scalars, encode, encodes, low_scalar}
-use Rattle.native_containers.specs.NativeTexts.Texts.{mark, repr_byte, repr_text}
 
 -- a byte below 128 before a text
 utf8_cons : (b : ℕ) (bs : List ℕ) → b < 128 → IsUtf8 bs → IsUtf8 (b ∷ bs)

@@ -1,16 +1,9 @@
 -- What the comparisons of tuples, lists and dicts say, which ask those of their items. Both are read at the start.
-use Rattle.std.specs.Prelude.{ℕ, Bool, true, false, cond, not, ◌==◌, length, nat_le, nat_lt, List, [], ◌∷◌, zip, Option, Some, None, option_map, option_and_then}
-use Rattle.py_node.specs.declared.refs.PyObjectRef.{PyObjectRef}
-use Rattle.py_node.specs.declared.entry.CompareNative.{CompareNative}
+use Rattle.native_containers.specs.Below.{ℕ, Bool, true, false, cond, not, length, nat_le, nat_lt, List, [], zip, Option, Some, None, option_map, option_and_then, PyObjectRef, CompareNative, PlainWorld, Bindings, CompareJob, DoIdEq, DoSeqLt, DoSeqGt, ToCompare, ReadObjects, Ended, Said, Ends, datum_at, Row, ask, end, value, truth, not_implemented, elsewhere, on_truth, on_maybe, read_objects, Kind, is_of, items_at, entries_at, keys_of, values_of}
+use Rattle.std.specs.Prelude.{◌==◌, ◌∷◌}
 use Rattle.py_node.specs.declared.entry.CompareNative.TheVariants as compare
-use Rattle.plain_machine.specs.Plain.{PlainWorld, Bindings, CompareJob, DoIdEq, DoSeqLt, DoSeqGt, ToCompare, ReadObjects, Ended, Said, Ends}
-use Rattle.plain_machine.specs.World.{datum_at}
-use Rattle.plain_machine.specs.Row.{Row, ask, end, value, truth, not_implemented, elsewhere, on_truth, on_maybe, read_objects}
-use Rattle.row_kit.specs.declared.take_containers.Kind.{Kind}
 use Rattle.row_kit.specs.declared.take_containers.Kind.TheVariants as kind
-use Rattle.row_kit.specs.TakeContainers.{is_of, items_at, entries_at}
 use Rattle.native_containers.specs.Take.{with_own_and}
-use Rattle.row_kit.specs.GiveContainers.{keys_of, values_of}
 use Rattle.native_containers.specs.Say.{value_under}
 use Rattle.native_containers.specs.declared.native_compare.way.Way.{Way}
 use Rattle.native_containers.specs.declared.native_compare.way.Way.TheVariants.{Equal, Less, Greater}

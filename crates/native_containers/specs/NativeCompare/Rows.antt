@@ -1,22 +1,9 @@
 -- What the contracts of comparisons of items say.
-use Rattle.std.specs.Prelude.{◌≡◌, Bool, true, false, List, [], ◌∷◌, ◌++◌, drop, map, zip, Result}
-use Rattle.py_node.specs.declared.refs.PyObjectRef.{PyObjectRef}
-use Rattle.py_node.specs.declared.raised.Raised.{Raised as Fault}
+use Rattle.native_containers.specs.Below.{Bool, true, false, List, [], drop, map, zip, Result, PyObjectRef, Raised as Fault, CompareNative, Compare, Answer, Task, Step, PlainWorld, PlainTask, ToNative, ReadObjects, Told, Said, none, Pending, World, Reading, Reads, plain, task_of, Group, Steps, Claim, AreNodes}
+use Rattle.std.specs.Prelude.{◌≡◌, ◌∷◌, ◌++◌}
 use Rattle.py_node.specs.declared.built_in.BuiltIn.TheVariants as built_in
-use Rattle.py_node.specs.declared.entry.CompareNative.{CompareNative}
 use Rattle.py_node.specs.declared.entry.CompareNative.TheVariants as compare
-use Rattle.py_node.specs.declared.entry.NativeEntry.TheVariants.{Compare}
-use Rattle.py_node.specs.declared.task.Answer.{Answer}
-use Rattle.py_node.specs.declared.task.Task.{Task}
-use Rattle.py_node.specs.declared.task.Step.{Step}
-use Rattle.plain_machine.specs.Plain.{PlainWorld, PlainTask, ToNative, ReadObjects, Told, Said}
-use Rattle.plain_machine.specs.Row.{none}
-use Rattle.plain_machine.specs.Rows.{Pending}
-use Rattle.class_world.specs.declared.world.World.{World}
-use Rattle.class_world.specs.Reading.{Reading, Reads, plain, task_of}
 use Rattle.class_world.specs.Rows as rows
-use Rattle.class_world.specs.Rows.{Group, Steps}
-use Rattle.class_world.specs.Sound.{Claim, AreNodes}
 use Rattle.native_containers.specs.declared.native_compare.ComparedKept.{ComparedKept}
 use Rattle.native_containers.specs.declared.native_compare.way.Way.{Way}
 use Rattle.native_containers.specs.declared.native_compare.way.Way.TheVariants.{Equal, Less, Greater}

@@ -1,11 +1,6 @@
 -- Which natives compare tuples, lists and dicts, and what they say.
-use Rattle.std.specs.Prelude.{Bool, true, false, List}
-use Rattle.py_node.specs.declared.refs.PyObjectRef.{PyObjectRef}
+use Rattle.native_containers.specs.Below.{Bool, true, false, List, PyObjectRef, NativeEntry, Compare, PlainWorld, PlainTask, ToNative, Bindings, Row, end, elsewhere}
 use Rattle.py_node.specs.declared.built_in.BuiltIn.TheVariants as built_in
-use Rattle.py_node.specs.declared.entry.NativeEntry.{NativeEntry}
-use Rattle.py_node.specs.declared.entry.NativeEntry.TheVariants.{Compare}
-use Rattle.plain_machine.specs.Plain.{PlainWorld, PlainTask, ToNative, Bindings}
-use Rattle.plain_machine.specs.Row.{Row, end, elsewhere}
 use Rattle.row_kit.specs.declared.take_containers.Kind.TheVariants as kind
 use Rattle.native_containers.specs.NativeCompare.Containers.{sequences_say, dicts_say}
 

@@ -1,26 +1,10 @@
 -- What the natives say that read and set the items of texts, tuples and lists.
-use Rattle.std.specs.Prelude.{ℕ, suc, Bool, true, false, is_some, length, take, drop, slice_get, slice_set, slice_range, List, [], ◌∷◌, ◌++◌, Option, Some, None, option_map, Ok}
-use Rattle.std.specs.Str.{chars, encode_utf8_all}
-use Rattle.py_node.specs.declared.refs.PyObjectRef.{PyObjectRef}
-use Rattle.py_node.specs.declared.raised.Cause.TheVariants.{IndexOut}
-use Rattle.py_node.specs.declared.payload.PySlice.{PySlice}
-use Rattle.py_node.specs.Tree.{Text}
-use Rattle.plain_machine.specs.Objects.{with_datum}
-use Rattle.plain_machine.specs.Plain.{AList, PlainWorld, Bindings, DoIdEq, DoIndex, DoCollect, ToCompare, ToProtocol, AsObjects, Ended, Answered, ReadObjects, Told, Said, Asks, Ends}
-use Rattle.plain_machine.specs.Row.{Row, pass, value, truth, fault, read_objects, on_value}
-use Rattle.plain_machine.specs.World.{datum_at, number_of}
-use Rattle.row_kit.specs.Say.{text_made}
-use Rattle.row_kit.specs.declared.take_containers.Kind.{Kind}
+use Rattle.native_containers.specs.Below.{ℕ, suc, Bool, true, false, is_some, length, take, drop, slice_get, slice_set, slice_range, List, [], Option, Some, None, option_map, Ok, chars, encode_utf8_all, PyObjectRef, IndexOut, PySlice, Text, with_datum, AList, PlainWorld, Bindings, DoIdEq, DoIndex, DoCollect, ToCompare, ToProtocol, AsObjects, Ended, Answered, ReadObjects, Told, Said, Asks, Ends, Row, pass, value, truth, fault, read_objects, on_value, datum_at, number_of, text_made, Kind, items_at, tuple_made, list_made, text_of, on_objects, any_of, is_plain, as_said, argument}
+use Rattle.std.specs.Prelude.{◌∷◌, ◌++◌}
 use Rattle.row_kit.specs.declared.take_containers.Kind.TheVariants as kind
-use Rattle.row_kit.specs.TakeContainers.{items_at}
 use Rattle.native_containers.specs.Say.{unless_long, list_changed}
-use Rattle.row_kit.specs.GiveContainers.{tuple_made, list_made}
-use Rattle.row_kit.specs.TakeTexts.{text_of}
 use Rattle.native_containers.specs.NativeTexts.Say.{or_no_text, with_text_and}
-use Rattle.row_kit.specs.ProtoBase.Each.{on_objects, any_of}
-use Rattle.row_kit.specs.ProtoBase.Entered.{is_plain}
 use Rattle.native_containers.specs.NativeItems.Places.{part, place_at, put_part, slice_at}
-use Rattle.row_kit.specs.Asking.{as_said, argument}
 use Rattle.native_containers.specs.Asking.{taking_two, taking_three}
 
 -- goes on with the place among so many items that an object leads to

@@ -1,19 +1,8 @@
 -- What the native says that gives the next item of an iterator.
-use Rattle.std.specs.Prelude.{ℕ, suc, pos, ◌-◌, ◌^◌, nat_lt, Bool, true, false, cond, slice_get, List, [], ◌∷◌, Option, Some, None, Ok, Err}
-use Rattle.std.specs.Str.{chars}
-use Rattle.std.specs.Char.{encode_utf8}
-use Rattle.py_node.specs.declared.refs.PyObjectRef.{PyObjectRef}
-use Rattle.py_node.specs.declared.raised.Cause.TheVariants.{IterEnd}
+use Rattle.native_containers.specs.Below.{ℕ, suc, pos, nat_lt, Bool, true, false, cond, slice_get, List, [], Option, Some, None, Ok, Err, chars, encode_utf8, PyObjectRef, IterEnd, IndexError, StopIteration, SequenceIterator, known_text, the_int, the_str, with_datum, Datum, AnIterator, ANumber, AText, ATuple, AList, PlainWorld, Bindings, DoSpecial, ToAttribute, AsValue, Ended, Said, Ends, Row, start, pass, end, value, fault, datum_at, with_node, next_node}
+use Rattle.std.specs.Prelude.{◌-◌, ◌^◌, ◌∷◌}
 use Rattle.py_node.specs.declared.raised.Kind.{Kind}
-use Rattle.py_node.specs.declared.raised.Kind.TheVariants.{IndexError, StopIteration}
-use Rattle.py_node.specs.declared.payload.SequenceIterator.{SequenceIterator}
 use Rattle.py_node.specs.declared.known.Known.TheVariants as known
-use Rattle.py_node.specs.Known.{known_text}
-use Rattle.plain_machine.specs.Known.{the_int, the_str}
-use Rattle.plain_machine.specs.Objects.{with_datum}
-use Rattle.plain_machine.specs.Plain.{Datum, AnIterator, ANumber, AText, ATuple, AList, PlainWorld, Bindings, DoSpecial, ToAttribute, AsValue, Ended, Said, Ends}
-use Rattle.plain_machine.specs.Row.{Row, start, pass, end, value, fault}
-use Rattle.plain_machine.specs.World.{datum_at, with_node, next_node}
 use Rattle.row_kit.specs.declared.take_containers.Kind.TheVariants as kind
 use Rattle.native_containers.specs.Asking.{taking_one}
 use Rattle.native_containers.specs.declared.native_items.next.Found.{Found}

@@ -1,9 +1,6 @@
 -- Where numbers and slices lead among items.
-use Rattle.std.specs.Prelude.{ℕ, suc, ℤ, pos, negsuc, ◌-◌, cond, min, max, nat_lt, length, take, drop, slice_range, List, ◌++◌, Option, Some, None, option_and_then}
-use Rattle.py_node.specs.declared.refs.PyObjectRef.{PyObjectRef}
-use Rattle.py_node.specs.declared.payload.PySlice.{PySlice}
-use Rattle.plain_machine.specs.Plain.{Datum, ASlice, PlainWorld}
-use Rattle.plain_machine.specs.World.{datum_at, number_of}
+use Rattle.native_containers.specs.Below.{ℕ, suc, ℤ, pos, negsuc, cond, min, max, nat_lt, length, take, drop, slice_range, List, Option, Some, None, option_and_then, PyObjectRef, PySlice, Datum, ASlice, PlainWorld, datum_at, number_of}
+use Rattle.std.specs.Prelude.{◌-◌, ◌++◌}
 
 -- where a number leads among so many items: from the end, if it is below zero
 abbrev pub place_of : ℕ → ℤ → Option ℕ

@@ -1,36 +1,14 @@
 -- What the contracts of the natives of items say.
-use Rattle.std.specs.Prelude.{ℕ, ◌+◌, drop, false, List, [], ◌∷◌, Result, Ok, Option, Some, None}
-use Rattle.std.specs.Global.{Vec}
-use Rattle.py_node.specs.declared.refs.PyObjectRef.{PyObjectRef}
-use Rattle.py_node.specs.declared.refs.PyStrInterned.{PyStrInterned}
-use Rattle.py_node.specs.declared.raised.Raised.{Raised as Fault}
+use Rattle.native_containers.specs.Below.{ℕ, drop, false, List, [], Result, Ok, Option, Some, None, Vec, PyObjectRef, PyStrInterned, Raised as Fault, NativeEntry, OfStr, OfTuple, OfList, OfIterator, IdEq, Answer, Value, Task, Step, Ask, End, PlainWorld, PlainTask, Bindings, ToNative, ReadObjects, Told, Said, ref, truth, Pending, fresh, World, Reading, bindings, task_of, Group, Goes, Follows, Claim, IsNode, AreNodes, Holding, Kind, tuple_made, list_made, items_at}
+use Rattle.std.specs.Prelude.{◌+◌, ◌∷◌}
 use Rattle.py_node.specs.declared.built_in.BuiltIn.TheVariants as built_in
 use Rattle.py_node.specs.declared.entry.StrNative.TheVariants as str
 use Rattle.py_node.specs.declared.entry.TupleNative.TheVariants as tuple
 use Rattle.py_node.specs.declared.entry.ListNative.TheVariants as list
 use Rattle.py_node.specs.declared.entry.IteratorNative.TheVariants as iterator
-use Rattle.py_node.specs.declared.entry.NativeEntry.{NativeEntry}
-use Rattle.py_node.specs.declared.entry.NativeEntry.TheVariants.{OfStr, OfTuple, OfList, OfIterator}
-use Rattle.py_node.specs.declared.protocol.CompareTask.TheVariants.{IdEq}
-use Rattle.py_node.specs.declared.task.Answer.{Answer}
-use Rattle.py_node.specs.declared.task.Answer.TheVariants.{Value}
-use Rattle.py_node.specs.declared.task.Task.{Task}
 use Rattle.py_node.specs.declared.task.Task.TheVariants as task
-use Rattle.py_node.specs.declared.task.Step.{Step}
-use Rattle.py_node.specs.declared.task.Step.TheVariants.{Ask, End}
-use Rattle.plain_machine.specs.Plain.{PlainWorld, PlainTask, Bindings, ToNative, ReadObjects, Told, Said}
-use Rattle.plain_machine.specs.World.{ref}
-use Rattle.plain_machine.specs.Row.{truth}
-use Rattle.plain_machine.specs.Rows.{Pending, fresh}
-use Rattle.class_world.specs.declared.world.World.{World}
-use Rattle.class_world.specs.Reading.{Reading, bindings, task_of}
 use Rattle.class_world.specs.Rows as rows
-use Rattle.class_world.specs.Rows.{Group, Goes, Follows}
-use Rattle.class_world.specs.Sound.{Claim, IsNode, AreNodes, Holding}
-use Rattle.row_kit.specs.declared.take_containers.Kind.{Kind}
 use Rattle.row_kit.specs.declared.take_containers.Kind.TheVariants as kind
-use Rattle.row_kit.specs.GiveContainers.{tuple_made, list_made}
-use Rattle.row_kit.specs.TakeContainers.{items_at}
 use Rattle.native_containers.specs.declared.native_items.get.Sequence.{Sequence}
 use Rattle.native_containers.specs.declared.native_items.get.Sequence.TheVariants as sequence
 use Rattle.native_containers.specs.declared.native_items.next.Found.{Found}

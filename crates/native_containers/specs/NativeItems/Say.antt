@@ -1,14 +1,9 @@
 -- What the natives say that read and set items, and go over them.
-use Rattle.std.specs.Prelude.{Bool, true, false, List}
-use Rattle.py_node.specs.declared.refs.PyObjectRef.{PyObjectRef}
+use Rattle.native_containers.specs.Below.{Bool, true, false, List, PyObjectRef, NativeEntry, OfStr, OfTuple, OfList, OfIterator, PlainWorld, PlainTask, ToNative, Bindings, Row, end, elsewhere}
 use Rattle.py_node.specs.declared.entry.StrNative.TheVariants as str
 use Rattle.py_node.specs.declared.entry.TupleNative.TheVariants as tuple
 use Rattle.py_node.specs.declared.entry.ListNative.TheVariants as list
 use Rattle.py_node.specs.declared.entry.IteratorNative.TheVariants as iterator
-use Rattle.py_node.specs.declared.entry.NativeEntry.{NativeEntry}
-use Rattle.py_node.specs.declared.entry.NativeEntry.TheVariants.{OfStr, OfTuple, OfList, OfIterator}
-use Rattle.plain_machine.specs.Plain.{PlainWorld, PlainTask, ToNative, Bindings}
-use Rattle.plain_machine.specs.Row.{Row, end, elsewhere}
 use Rattle.row_kit.specs.declared.take_containers.Kind.TheVariants as kind
 use Rattle.native_containers.specs.NativeItems.Items.{tuple_get_item, list_get_item, str_get_item, list_set_item, list_del_item, contains, list_extend}
 use Rattle.native_containers.specs.NativeItems.Iterators.{iterator_next}

@@ -1,19 +1,9 @@
 -- What the natives say that make or fill texts, tuples and lists from an object.
-use Rattle.std.specs.Prelude.{ℕ, cond, eqb, List, [], ◌∷◌}
-use Rattle.py_node.specs.declared.refs.PyObjectRef.{PyObjectRef}
+use Rattle.native_containers.specs.Below.{ℕ, cond, eqb, List, [], PyObjectRef, ArgCount, the_str, class_object, with_datum, AText, ATuple, AList, PlainWorld, Bindings, DoCollect, DoStr, PlainTask, ToProtocol, ToObject, Ended, ReadObjects, Said, Asks, Ends, Row, value, none, fault, on_value, without_keywords, object_made, with_heir, on_objects, argument, as_said, with_read}
+use Rattle.std.specs.Prelude.{◌∷◌}
 use Rattle.py_node.specs.declared.built_in.BuiltIn.TheVariants as built_in
-use Rattle.py_node.specs.declared.raised.Cause.TheVariants.{ArgCount}
-use Rattle.plain_machine.specs.Known.{the_str}
-use Rattle.plain_machine.specs.Objects.{class_object, with_datum}
-use Rattle.plain_machine.specs.Plain.{AText, ATuple, AList, PlainWorld, Bindings, DoCollect, DoStr, PlainTask, ToProtocol, ToObject, Ended, ReadObjects, Said, Asks, Ends}
-use Rattle.plain_machine.specs.Row.{Row, value, none, fault, on_value}
-use Rattle.plain_machine.specs.Takes.{without_keywords}
-use Rattle.row_kit.specs.Say.{object_made}
 use Rattle.row_kit.specs.declared.take_containers.Kind.TheVariants as kind
 use Rattle.native_containers.specs.Take.{with_own}
-use Rattle.row_kit.specs.TakeClasses.{with_heir}
-use Rattle.row_kit.specs.ProtoBase.Each.{on_objects}
-use Rattle.row_kit.specs.Asking.{argument, as_said, with_read}
 use Rattle.native_containers.specs.NativeParts.Texts.{text_at}
 
 -- at most one argument after the first, and no keyword

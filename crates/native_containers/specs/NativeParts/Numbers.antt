@@ -1,16 +1,6 @@
 -- What the natives say that make whole numbers and truth values, which ask for the number or the truth of an object.
-use Rattle.std.specs.Prelude.{ℕ, ℤ, false, eqb, cond, pos, List, Option, Some, None}
-use Rattle.py_node.specs.declared.refs.PyObjectRef.{PyObjectRef}
+use Rattle.native_containers.specs.Below.{ℕ, ℤ, false, eqb, cond, pos, List, Option, Some, None, PyObjectRef, SelfType, ANumber, PlainWorld, Bindings, DoWhole, DoIsTrue, ToProtocol, Ended, Said, Ends, datum_at, number_of, the_int, class_object, Row, start, pass, end, value, truth, fault, on_value, on_truth, object_made, as_said, with_read, with_heir}
 use Rattle.py_node.specs.declared.built_in.BuiltIn.TheVariants as built_in
-use Rattle.py_node.specs.declared.raised.Cause.TheVariants.{SelfType}
-use Rattle.plain_machine.specs.Plain.{ANumber, PlainWorld, Bindings, DoWhole, DoIsTrue, ToProtocol, Ended, Said, Ends}
-use Rattle.plain_machine.specs.World.{datum_at, number_of}
-use Rattle.plain_machine.specs.Known.{the_int}
-use Rattle.plain_machine.specs.Objects.{class_object}
-use Rattle.plain_machine.specs.Row.{Row, start, pass, end, value, truth, fault, on_value, on_truth}
-use Rattle.row_kit.specs.Say.{object_made}
-use Rattle.row_kit.specs.Asking.{as_said, with_read}
-use Rattle.row_kit.specs.TakeClasses.{with_heir}
 use Rattle.native_containers.specs.NativeParts.Makers.{asks_for, first, with_one_at_most}
 
 -- a new whole number of a class is that of an object; of `int` itself it is what the object gives for it

@@ -1,30 +1,12 @@
 -- What the contracts of the natives say that ask for parts.
-use Rattle.std.specs.Prelude.{◌≡◌, pos, ◌-ℤ◌, List, [], ◌∷◌, ◌++◌, drop, map, Option, Some, None, Result, Ok}
-use Rattle.py_node.specs.declared.refs.PyObjectRef.{PyObjectRef}
-use Rattle.py_node.specs.declared.refs.PyStrInterned.{PyStrInterned}
-use Rattle.py_node.specs.declared.raised.Raised.{Raised as Fault}
+use Rattle.native_containers.specs.Below.{pos, List, [], drop, map, Option, Some, None, Result, Ok, PyObjectRef, PyStrInterned, Raised as Fault, NativeEntry, OfTuple, OfList, OfDict, OfWrapper, NewOf, Answer, Number, Value, Task, Step, Ask, End, PlainWorld, PlainTask, ToNative, Ended, Fact, Answered, ReadObjects, Told, Said, Asks, Ends, ref, Row, none, value, Pending, fresh, World, Reading, Reads, bindings, ended_of, plain, task_of, Goes, Group, Claim, AreNodes, IsClass, IsNode, IsOf, Holding, number}
+use Rattle.std.specs.Prelude.{◌≡◌, ◌-ℤ◌, ◌∷◌, ◌++◌}
 use Rattle.py_node.specs.declared.built_in.BuiltIn.TheVariants as built_in
-use Rattle.py_node.specs.declared.entry.NativeEntry.{NativeEntry}
-use Rattle.py_node.specs.declared.entry.NativeEntry.TheVariants.{OfTuple, OfList, OfDict, OfWrapper, NewOf}
 use Rattle.py_node.specs.declared.entry.TupleNative.TheVariants as tuple
 use Rattle.py_node.specs.declared.entry.ListNative.TheVariants as list
 use Rattle.py_node.specs.declared.entry.DictNative.TheVariants as dict
 use Rattle.py_node.specs.declared.entry.WrapperNative.TheVariants as wrapper
-use Rattle.py_node.specs.declared.task.Answer.{Answer}
-use Rattle.py_node.specs.declared.task.Answer.TheVariants.{Number, Value}
-use Rattle.py_node.specs.declared.task.Task.{Task}
-use Rattle.py_node.specs.declared.task.Step.{Step}
-use Rattle.py_node.specs.declared.task.Step.TheVariants.{Ask, End}
-use Rattle.plain_machine.specs.Plain.{PlainWorld, PlainTask, ToNative, Ended, Fact, Answered, ReadObjects, Told, Said, Asks, Ends}
-use Rattle.plain_machine.specs.World.{ref}
-use Rattle.plain_machine.specs.Row.{Row, none, value}
-use Rattle.plain_machine.specs.Rows.{Pending, fresh}
-use Rattle.class_world.specs.declared.world.World.{World}
-use Rattle.class_world.specs.Reading.{Reading, Reads, bindings, ended_of, plain, task_of}
 use Rattle.class_world.specs.Rows as rows
-use Rattle.class_world.specs.Rows.{Goes, Group}
-use Rattle.class_world.specs.Sound.{Claim, AreNodes, IsClass, IsNode, IsOf, Holding}
-use Rattle.row_kit.specs.ProtoBase.Each.{number}
 use Rattle.native_containers.specs.declared.native_parts.PartsKept.{PartsKept}
 use Rattle.native_containers.specs.declared.native_parts.PartsKept.TheVariants.{Texts, Hashes, Wrapped, NewInt, NewBool, NewStr, NewTuple, Filling}
 use Rattle.native_containers.specs.declared.native_parts.hash.Hashing.{Hashing}

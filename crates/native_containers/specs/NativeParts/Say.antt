@@ -1,15 +1,10 @@
 -- What the natives say that make and fill objects of others, and those that ask for the texts or the hashes of parts.
-use Rattle.std.specs.Prelude.{Bool, true, false, List}
-use Rattle.py_node.specs.declared.refs.PyObjectRef.{PyObjectRef}
+use Rattle.native_containers.specs.Below.{Bool, true, false, List, PyObjectRef, NativeEntry, OfTuple, OfList, OfDict, OfWrapper, NewOf, PlainWorld, Bindings, PlainTask, ToNative, Row, end, elsewhere}
 use Rattle.py_node.specs.declared.built_in.BuiltIn.TheVariants as built_in
 use Rattle.py_node.specs.declared.entry.TupleNative.TheVariants as tuple
 use Rattle.py_node.specs.declared.entry.ListNative.TheVariants as list
 use Rattle.py_node.specs.declared.entry.DictNative.TheVariants as dict
 use Rattle.py_node.specs.declared.entry.WrapperNative.TheVariants as wrapper
-use Rattle.py_node.specs.declared.entry.NativeEntry.{NativeEntry}
-use Rattle.py_node.specs.declared.entry.NativeEntry.TheVariants.{OfTuple, OfList, OfDict, OfWrapper, NewOf}
-use Rattle.plain_machine.specs.Plain.{PlainWorld, Bindings, PlainTask, ToNative}
-use Rattle.plain_machine.specs.Row.{Row, end, elsewhere}
 use Rattle.native_containers.specs.declared.native_parts.take.Container.TheVariants as container
 use Rattle.native_containers.specs.declared.native_parts.wrapped.Wrapper.TheVariants.{Class, Static}
 use Rattle.native_containers.specs.NativeParts.Texts.{tuple_hash, container_repr, wrapper_repr}

@@ -1,22 +1,8 @@
 -- What the natives say that ask for the texts or the hashes of parts.
-use Rattle.std.specs.Prelude.{ℕ, zero, suc, ◌%◌, ℤ, pos, ◌*ℤ◌, ◌+ℤ◌, codes, Bool, false, cond, ◌==◌, length, map, List, [], ◌∷◌, ◌++◌, Option, Some, None}
-use Rattle.std.specs.List.{flat_map}
-use Rattle.py_node.specs.declared.refs.PyObjectRef.{PyObjectRef}
-use Rattle.py_node.specs.Tree.{Text}
-use Rattle.plain_machine.specs.Dicts.{Entries}
-use Rattle.plain_machine.specs.Plain.{Datum, AClassMethod, AStaticMethod, ATuple, AList, ADict, PlainWorld, Bindings, DoHash, DoRepr, PlainTask, ToObject, Said}
-use Rattle.plain_machine.specs.Row.{Row, start, pass, end, on_value, read_objects}
-use Rattle.plain_machine.specs.Takes.{with_one}
-use Rattle.plain_machine.specs.World.{datum_at}
-use Rattle.row_kit.specs.Say.{in_length, text_made}
-use Rattle.row_kit.specs.declared.take_containers.Kind.{Kind}
+use Rattle.native_containers.specs.Below.{ℕ, zero, suc, ℤ, pos, codes, Bool, false, cond, length, map, List, [], Option, Some, None, flat_map, PyObjectRef, Text, Entries, Datum, AClassMethod, AStaticMethod, ATuple, AList, ADict, PlainWorld, Bindings, DoHash, DoRepr, PlainTask, ToObject, Said, Row, start, pass, end, on_value, read_objects, with_one, datum_at, in_length, text_made, Kind, number_hash, with_own, text_of, number, each_value, each_number, as_said}
+use Rattle.std.specs.Prelude.{◌%◌, ◌*ℤ◌, ◌+ℤ◌, ◌==◌, ◌∷◌, ◌++◌}
 use Rattle.row_kit.specs.declared.take_containers.Kind.TheVariants as kind
-use Rattle.row_kit.specs.IntValues.{number_hash}
-use Rattle.row_kit.specs.TakeClasses.{with_own}
-use Rattle.row_kit.specs.TakeTexts.{text_of}
 use Rattle.native_containers.specs.NativeTexts.Say.{or_no_text}
-use Rattle.row_kit.specs.ProtoBase.Each.{number, each_value, each_number}
-use Rattle.row_kit.specs.Asking.{as_said}
 use Rattle.native_containers.specs.Asking.{taking_one}
 use Rattle.native_containers.specs.declared.native_parts.take.Container.{Container}
 use Rattle.native_containers.specs.declared.native_parts.take.Container.TheVariants as container

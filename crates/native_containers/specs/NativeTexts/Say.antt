@@ -1,25 +1,9 @@
 -- What the natives of texts say that ask no task.
-use Rattle.std.specs.Prelude.{ℕ, Bool, false, cond, eqb, List, [], ◌∷◌, ◌++◌, Option, Some, None, Ok}
-use Rattle.std.specs.declared.cmp.Ordering.{Ordering}
-use Rattle.std.specs.Ordering.{nat_cmp, is_eq, is_ne, is_lt, is_le, is_ge, is_gt}
-use Rattle.std.specs.Cmp.Lexicographic.{slice_cmp}
-use Rattle.std.specs.Int.{w64, cast_signed}
-use Rattle.std.specs.Str.{str_to_ascii_uppercase}
-use Rattle.py_node.specs.declared.refs.PyObjectRef.{PyObjectRef}
-use Rattle.py_node.specs.declared.raised.Cause.TheVariants.{ArgCount, ConcatType, ContainsType}
-use Rattle.py_node.specs.declared.entry.CompareNative.{CompareNative}
+use Rattle.native_containers.specs.Below.{ℕ, Bool, false, cond, eqb, List, [], Option, Some, None, Ok, Ordering, nat_cmp, is_eq, is_ne, is_lt, is_le, is_ge, is_gt, slice_cmp, w64, cast_signed, str_to_ascii_uppercase, PyObjectRef, ArgCount, ConcatType, ContainsType, CompareNative, StrNative, Text, PlainWorld, Bindings, Said, Ends, class_at, datum_at, the_str, value, truth, not_implemented, fault, elsewhere, with_one, with_two, with_text, in_length, number_told, text_made, iterator_made, text_of}
+use Rattle.std.specs.Prelude.{◌∷◌, ◌++◌}
 use Rattle.py_node.specs.declared.entry.CompareNative.TheVariants as compare
-use Rattle.py_node.specs.declared.entry.StrNative.{StrNative}
 use Rattle.py_node.specs.declared.entry.StrNative.TheVariants as str
-use Rattle.py_node.specs.Tree.{Text}
-use Rattle.plain_machine.specs.Plain.{PlainWorld, Bindings, Said, Ends}
-use Rattle.plain_machine.specs.World.{class_at, datum_at}
-use Rattle.plain_machine.specs.Known.{the_str}
-use Rattle.plain_machine.specs.Row.{value, truth, not_implemented, fault, elsewhere}
-use Rattle.plain_machine.specs.Takes.{with_one, with_two, with_text}
-use Rattle.row_kit.specs.Say.{in_length, number_told, text_made, iterator_made}
 use Rattle.native_containers.specs.NativeTexts.Texts.{text_length, text_hash, repr_text, stands_in}
-use Rattle.row_kit.specs.TakeTexts.{text_of}
 
 -- the text that is there, or an empty one
 abbrev pub or_no_text : Option Text → Text

@@ -1,9 +1,6 @@
 -- What natives make of texts.
-use Rattle.std.specs.Prelude.{ℕ, ℤ, bit_xor, ◌*◌, ◌%◌, ◌^◌, Bool, cond, eqb, ◌==◌, ◌||◌, if◌then◌else◌, length, fold, List, [], ◌∷◌, ◌++◌}
-use Rattle.std.specs.Int.{w64, cast_signed}
-use Rattle.std.specs.List.{flat_map, starts_with}
-use Rattle.std.specs.Str.{chars}
-use Rattle.py_node.specs.Tree.{Text}
+use Rattle.native_containers.specs.Below.{ℕ, ℤ, bit_xor, Bool, cond, eqb, length, fold, List, [], w64, cast_signed, flat_map, starts_with, chars, Text}
+use Rattle.std.specs.Prelude.{◌*◌, ◌%◌, ◌^◌, ◌==◌, ◌||◌, if◌then◌else◌, ◌∷◌, ◌++◌}
 
 -- how many characters it has
 abbrev pub text_length : Text → ℕ

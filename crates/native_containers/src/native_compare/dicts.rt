@@ -1,11 +1,7 @@
 //! Dicts.
 
-ghost use Rattle.std.specs.Prelude.{◌≡◌, IfOk, IfSome, option_map};
-ghost use Rattle.class_world.specs.Claims.{of_step};
-ghost use Rattle.class_world.specs.Keyed.{of_entries};
-ghost use Rattle.class_world.specs.Reading.{Reading, bindings, plain};
-ghost use Rattle.class_world.specs.Sound.{AllHold, AreNodes, Holds, IsNode};
-ghost use Rattle.row_kit.specs.GiveContainers.{keys_of};
+ghost use Rattle.native_containers.specs.Below.{IfOk, IfSome, option_map, of_step, of_entries, Reading, bindings, plain, AllHold, AreNodes, Holds, IsNode, keys_of};
+ghost use Rattle.std.specs.Prelude.{◌≡◌};
 ghost use Rattle.native_containers.specs.NativeCompare.Containers.{dicts_by, dicts_equal, values_under};
 ghost use Rattle.native_containers.specs.NativeCompare.Rows.{Compares, of_compared_kept};
 

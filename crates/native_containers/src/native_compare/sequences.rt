@@ -1,11 +1,7 @@
 //! Tuples and lists.
 
-ghost use Rattle.std.specs.Prelude.{◌≡◌, IfErr, IfOk};
-ghost use Rattle.py_node.specs.declared.refs.PyObjectRef.{PyObjectRef as Object};
-ghost use Rattle.plain_machine.specs.Plain.{Said, Ends};
-ghost use Rattle.class_world.specs.Claims.{of_ended, of_step};
-ghost use Rattle.class_world.specs.Reading.{Reading, bindings, ended_of, plain};
-ghost use Rattle.class_world.specs.Sound.{AllHold, AreNodes, Holds, IsNode};
+ghost use Rattle.native_containers.specs.Below.{IfErr, IfOk, PyObjectRef as Object, Said, Ends, of_ended, of_step, Reading, bindings, ended_of, plain, AllHold, AreNodes, Holds, IsNode};
+ghost use Rattle.std.specs.Prelude.{◌≡◌};
 ghost use Rattle.native_containers.specs.NativeCompare.Containers.{sequences_by, with_both};
 ghost use Rattle.native_containers.specs.NativeCompare.Rows.{Compares, of_compared_kept};
 

@@ -1,11 +1,7 @@
 //! Items that are asked in turn.
 
-ghost use Rattle.std.specs.Prelude.{◌≡◌, IfNone, IfSome};
-ghost use Rattle.plain_machine.specs.Plain.{PlainWorld, Told, Ends};
-ghost use Rattle.plain_machine.specs.Row.{Row};
-ghost use Rattle.class_world.specs.Claims.{of_ended, of_step};
-ghost use Rattle.class_world.specs.Reading.{ended_of};
-ghost use Rattle.class_world.specs.Sound.{AllHold, AreNodes, Holds};
+ghost use Rattle.native_containers.specs.Below.{IfNone, IfSome, PlainWorld, Told, Ends, Row, of_ended, of_step, ended_of, AllHold, AreNodes, Holds};
+ghost use Rattle.std.specs.Prelude.{◌≡◌};
 ghost use Rattle.native_containers.specs.NativeCompare.Containers.{answered, both_read};
 ghost use Rattle.native_containers.specs.NativeCompare.Rows.{Compares, TakesTurn, of_compared_kept};
 

@@ -2,7 +2,7 @@
 
 ghost use Rattle.std.specs.Prelude.{◌≡◌};
 ghost use Rattle.native_containers.specs.NativeCompare.Containers.{asked, turns_of};
-ghost use Rattle.class_world.specs.Reading.{compare_job};
+ghost use Rattle.native_containers.specs.Below.{compare_job};
 
 use py_node::{CompareNative, CompareTask, PyObjectRef};
 

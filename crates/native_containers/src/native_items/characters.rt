@@ -1,17 +1,9 @@
 //! A character or a part of a text.
 
-ghost use Rattle.std.specs.Prelude.{◌≡◌, [], IfOk, option_map, slice_range, string_bytes};
-ghost use Rattle.std.specs.Str.{chars, encode_utf8_all};
-ghost use Rattle.py_node.specs.declared.entry.NativeEntry.TheVariants.{OfStr};
+ghost use Rattle.native_containers.specs.Below.{[], IfOk, option_map, slice_range, string_bytes, chars, encode_utf8_all, OfStr, datum_at, of_ended, Leaves, EndsAs, LeavesEnd, Reading, ended_of, plain, AllHold, AreNodes, Holds, IsNode, of_node_ref, of_option, argument, text_of};
+ghost use Rattle.std.specs.Prelude.{◌≡◌};
 ghost use Rattle.py_node.specs.declared.entry.StrNative.TheVariants.{GetItem};
-ghost use Rattle.plain_machine.specs.World.{datum_at};
-ghost use Rattle.class_world.specs.Claims.{of_ended, Leaves};
-ghost use Rattle.class_world.specs.Rows.{EndsAs, LeavesEnd};
-ghost use Rattle.class_world.specs.Reading.{Reading, ended_of, plain};
-ghost use Rattle.class_world.specs.Sound.{AllHold, AreNodes, Holds, IsNode, of_node_ref, of_option};
-ghost use Rattle.row_kit.specs.Asking.{argument};
 ghost use Rattle.native_containers.specs.NativeTexts.Say.{or_no_text};
-ghost use Rattle.row_kit.specs.TakeTexts.{text_of};
 ghost use Rattle.native_containers.specs.NativeItems.Items.{character_at, char_rest, chars_at};
 ghost use Rattle.native_containers.specs.NativeItems.Places.{part};
 ghost use Rattle.native_containers.specs.NativeItems.Rows.{Enters, of_item_kept};

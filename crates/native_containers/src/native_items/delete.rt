@@ -1,15 +1,9 @@
 //! An item or a part of a list is taken out.
 
-ghost use Rattle.std.specs.Prelude.{◌≡◌, [], ◌∷◌, ◌++◌, suc, take, drop, IfOk, length};
+ghost use Rattle.native_containers.specs.Below.{[], suc, take, drop, IfOk, length, DelItem, OfList, of_ended, Leaves, ended_of, EndsAs, LeavesEnd, AllHold, AreNodes, Grows, Holding, Holds, IsNode, items_at};
+ghost use Rattle.std.specs.Prelude.{◌≡◌, ◌∷◌, ◌++◌};
 ghost use Rattle.py_node.specs.declared.built_in.BuiltIn.TheVariants.{List};
-ghost use Rattle.py_node.specs.declared.entry.ListNative.TheVariants.{DelItem};
-ghost use Rattle.py_node.specs.declared.entry.NativeEntry.TheVariants.{OfList};
-ghost use Rattle.class_world.specs.Claims.{of_ended, Leaves};
-ghost use Rattle.class_world.specs.Reading.{ended_of};
-ghost use Rattle.class_world.specs.Rows.{EndsAs, LeavesEnd};
-ghost use Rattle.class_world.specs.Sound.{AllHold, AreNodes, Grows, Holding, Holds, IsNode};
 ghost use Rattle.native_containers.specs.Say.{list_changed};
-ghost use Rattle.row_kit.specs.TakeContainers.{items_at};
 ghost use Rattle.native_containers.specs.NativeItems.Items.{del_item, del_rest, placed};
 ghost use Rattle.native_containers.specs.NativeItems.Places.{place_at};
 ghost use Rattle.native_containers.specs.NativeItems.Rows.{Does, Enters, items_stood, of_item_kept, of_stood};

@@ -1,14 +1,8 @@
 //! A list gets the items of an iteration after its own.
 
-ghost use Rattle.std.specs.Prelude.{◌≡◌, [], ◌∷◌, ◌++◌, IfOk};
+ghost use Rattle.native_containers.specs.Below.{[], IfOk, InplaceAdd, OfList, of_ended, Leaves, ended_of, EndsAs, LeavesEnd, AllHold, AreNodes, Holding, Holds, IsNode, items_at};
+ghost use Rattle.std.specs.Prelude.{◌≡◌, ◌∷◌, ◌++◌};
 ghost use Rattle.py_node.specs.declared.built_in.BuiltIn.TheVariants.{List};
-ghost use Rattle.py_node.specs.declared.entry.ListNative.TheVariants.{InplaceAdd};
-ghost use Rattle.py_node.specs.declared.entry.NativeEntry.TheVariants.{OfList};
-ghost use Rattle.class_world.specs.Claims.{of_ended, Leaves};
-ghost use Rattle.class_world.specs.Reading.{ended_of};
-ghost use Rattle.class_world.specs.Rows.{EndsAs, LeavesEnd};
-ghost use Rattle.class_world.specs.Sound.{AllHold, AreNodes, Holding, Holds, IsNode};
-ghost use Rattle.row_kit.specs.TakeContainers.{items_at};
 ghost use Rattle.native_containers.specs.NativeItems.Items.{extend, extend_rest, list_extended};
 ghost use Rattle.native_containers.specs.NativeItems.Rows.{Does, Enters, items_stood, of_item_kept, of_stood};
 

@@ -1,10 +1,7 @@
 //! An item or a part of a tuple or a list.
 
-ghost use Rattle.std.specs.Prelude.{◌≡◌, [], ◌∷◌, IfOk};
-ghost use Rattle.class_world.specs.Claims.{of_ended, Leaves};
-ghost use Rattle.class_world.specs.Reading.{ended_of};
-ghost use Rattle.class_world.specs.Rows.{EndsAs, LeavesEnd};
-ghost use Rattle.class_world.specs.Sound.{AllHold, AreNodes, Holds, IsNode};
+ghost use Rattle.native_containers.specs.Below.{[], IfOk, of_ended, Leaves, ended_of, EndsAs, LeavesEnd, AllHold, AreNodes, Holds, IsNode};
+ghost use Rattle.std.specs.Prelude.{◌≡◌, ◌∷◌};
 ghost use Rattle.native_containers.specs.NativeItems.Items.{get_item, item_got};
 ghost use Rattle.native_containers.specs.NativeItems.Rows.{Does, Enters, getter_of, items_stood, kind_of, made_as, of_item_kept, of_stood};
 

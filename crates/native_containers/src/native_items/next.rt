@@ -1,20 +1,7 @@
 //! The next item of an iterator.
 
-ghost use Rattle.std.specs.Prelude.{◌≡◌, [], ◌∷◌, IfOk, IfSome, pos, slice_get};
-ghost use Rattle.std.specs.Char.{encode_utf8};
-ghost use Rattle.std.specs.Str.{chars};
-ghost use Rattle.py_node.specs.declared.built_in.BuiltIn.TheVariants.{Iterator};
-ghost use Rattle.py_node.specs.declared.entry.IteratorNative.TheVariants.{Next};
-ghost use Rattle.py_node.specs.declared.entry.NativeEntry.TheVariants.{OfIterator};
-ghost use Rattle.py_node.specs.declared.known.Known.TheVariants.{GetItem};
-ghost use Rattle.py_node.specs.Known.{known_text};
-ghost use Rattle.plain_machine.specs.Known.{the_int, the_str};
-ghost use Rattle.plain_machine.specs.Plain.{ANumber, AText, DoSpecial, ToAttribute};
-ghost use Rattle.plain_machine.specs.World.{datum_at, next_node, with_node};
-ghost use Rattle.class_world.specs.Claims.{of_ended, of_task, Leaves};
-ghost use Rattle.class_world.specs.Reading.{Reading, Reads, ended_of, plain, task_of};
-ghost use Rattle.class_world.specs.Rows.{EndsAs};
-ghost use Rattle.class_world.specs.Sound.{AllHold, AreNodes, Grows, Holding, Holds, IsNode};
+ghost use Rattle.native_containers.specs.Below.{[], IfOk, IfSome, pos, slice_get, encode_utf8, chars, Iterator, Next, OfIterator, GetItem, known_text, the_int, the_str, ANumber, AText, DoSpecial, ToAttribute, datum_at, next_node, with_node, of_ended, of_task, Leaves, Reading, Reads, ended_of, plain, task_of, EndsAs, AllHold, AreNodes, Grows, Holding, Holds, IsNode};
+ghost use Rattle.std.specs.Prelude.{◌≡◌, ◌∷◌};
 ghost use Rattle.native_containers.specs.NativeItems.Iterators.{found_in, is_end, item_found, iterator_in, next_by, next_in, next_place, next_rest, with_place};
 ghost use Rattle.native_containers.specs.NativeItems.Rows.{Does, Enters, of_found, of_item_kept};
 

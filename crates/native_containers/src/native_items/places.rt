@@ -1,12 +1,9 @@
 //! Where numbers and slices lead among items, and the parts of lists that slices name.
 
-ghost use Rattle.std.specs.Prelude.{◌≡◌, ◌<◌, ◌≤◌, IfOk, IfSome, length, max, slice_range};
+ghost use Rattle.native_containers.specs.Below.{IfOk, IfSome, length, max, slice_range, Reading, plain, EndsAs, LeavesEnd, AllHold, AreNodes, Holding, Holds, IsNode, of_node_ref, of_option, items_at};
+ghost use Rattle.std.specs.Prelude.{◌≡◌, ◌<◌, ◌≤◌};
 ghost use Rattle.py_node.specs.declared.built_in.BuiltIn.TheVariants.{List};
-ghost use Rattle.class_world.specs.Reading.{Reading, plain};
-ghost use Rattle.class_world.specs.Rows.{EndsAs, LeavesEnd};
-ghost use Rattle.class_world.specs.Sound.{AllHold, AreNodes, Holding, Holds, IsNode, of_node_ref, of_option};
 ghost use Rattle.native_containers.specs.Say.{list_changed};
-ghost use Rattle.row_kit.specs.TakeContainers.{items_at};
 ghost use Rattle.native_containers.specs.NativeItems.Places.{bound_at, bound_of, part, place_at, place_of, put_between, put_part, slice_at};
 
 use crate::made::ends_none;

@@ -1,8 +1,7 @@
 //! Whether an object is among the items of a tuple or a list.
 
-ghost use Rattle.std.specs.Prelude.{◌≡◌, [], ◌∷◌, IfOk, slice_get};
-ghost use Rattle.class_world.specs.Claims.{of_ended, of_step, Leaves};
-ghost use Rattle.class_world.specs.Sound.{AllHold, AreNodes, Holds, IsNode};
+ghost use Rattle.native_containers.specs.Below.{[], IfOk, slice_get, of_ended, of_step, Leaves, AllHold, AreNodes, Holds, IsNode};
+ghost use Rattle.std.specs.Prelude.{◌≡◌, ◌∷◌};
 ghost use Rattle.native_containers.specs.declared.native_items.ItemKept.TheVariants.{Searching};
 ghost use Rattle.native_containers.specs.NativeItems.Items.{look_for};
 ghost use Rattle.native_containers.specs.NativeItems.Rows.{Does, Enters, Resumes, next_asked, of_item_kept, searcher_of};

@@ -1,15 +1,9 @@
 //! An item or a part of a list is set.
 
-ghost use Rattle.std.specs.Prelude.{◌≡◌, [], ◌∷◌, IfOk, length, slice_set};
+ghost use Rattle.native_containers.specs.Below.{[], IfOk, length, slice_set, SetItem, OfList, of_ended, Leaves, ended_of, EndsAs, LeavesEnd, AllHold, AreNodes, Grows, Holding, Holds, IsNode, items_at};
+ghost use Rattle.std.specs.Prelude.{◌≡◌, ◌∷◌};
 ghost use Rattle.py_node.specs.declared.built_in.BuiltIn.TheVariants.{List};
-ghost use Rattle.py_node.specs.declared.entry.ListNative.TheVariants.{SetItem};
-ghost use Rattle.py_node.specs.declared.entry.NativeEntry.TheVariants.{OfList};
-ghost use Rattle.class_world.specs.Claims.{of_ended, Leaves};
-ghost use Rattle.class_world.specs.Reading.{ended_of};
-ghost use Rattle.class_world.specs.Rows.{EndsAs, LeavesEnd};
-ghost use Rattle.class_world.specs.Sound.{AllHold, AreNodes, Grows, Holding, Holds, IsNode};
 ghost use Rattle.native_containers.specs.Say.{list_changed};
-ghost use Rattle.row_kit.specs.TakeContainers.{items_at};
 ghost use Rattle.native_containers.specs.NativeItems.Items.{part_set, placed, set_item, set_rest};
 ghost use Rattle.native_containers.specs.NativeItems.Places.{place_at, slice_at};
 ghost use Rattle.native_containers.specs.NativeItems.Rows.{Does, Enters, items_stood, of_item_kept, of_stood};

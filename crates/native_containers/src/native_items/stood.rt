@@ -1,8 +1,7 @@
 //! The items that stood in an object at the start.
 
-ghost use Rattle.std.specs.Prelude.{◌≡◌, IfOk};
-ghost use Rattle.class_world.specs.Reading.{Reading, plain};
-ghost use Rattle.class_world.specs.Sound.{AllHold, AreNodes, Holds, IsNode};
+ghost use Rattle.native_containers.specs.Below.{IfOk, Reading, plain, AllHold, AreNodes, Holds, IsNode};
+ghost use Rattle.std.specs.Prelude.{◌≡◌};
 ghost use Rattle.native_containers.specs.NativeItems.Items.{stood};
 ghost use Rattle.native_containers.specs.NativeItems.Rows.{items_stood, of_stood, stood_told};
 

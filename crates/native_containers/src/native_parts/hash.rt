@@ -1,10 +1,8 @@
 //! The hash of a tuple.
 
-ghost use Rattle.std.specs.Prelude.{◌≡◌, Ok, IfErr, IfOk};
-ghost use Rattle.py_node.specs.declared.entry.NativeEntry.TheVariants.{OfTuple};
+ghost use Rattle.native_containers.specs.Below.{Ok, IfErr, IfOk, OfTuple, of_ended, of_step, Leaves, AllHold, AreNodes, Holds};
+ghost use Rattle.std.specs.Prelude.{◌≡◌};
 ghost use Rattle.py_node.specs.declared.entry.TupleNative.TheVariants as tuple;
-ghost use Rattle.class_world.specs.Claims.{of_ended, of_step, Leaves};
-ghost use Rattle.class_world.specs.Sound.{AllHold, AreNodes, Holds};
 ghost use Rattle.native_containers.specs.NativeParts.Rows.{IsNoNumber, Resumes, Starts, Takes, left_to_hash, of_parts_kept};
 ghost use Rattle.native_containers.specs.NativeParts.Texts.{hash_row, hashed_on};
 

@@ -1,12 +1,9 @@
 //! What makes texts and tuples, and fills lists, of what an object gives.
 
-ghost use Rattle.std.specs.Prelude.{◌≡◌, Ok, Err, IfErr, IfOk};
+ghost use Rattle.native_containers.specs.Below.{Ok, Err, IfErr, IfOk, NewOf, OfList, of_ended, Leaves, EndsAs, AllHold, AreNodes, Grows, Holding, Holds, IsClass, IsNode, IsOf};
+ghost use Rattle.std.specs.Prelude.{◌≡◌};
 ghost use Rattle.py_node.specs.declared.built_in.BuiltIn.TheVariants as built_in;
-ghost use Rattle.py_node.specs.declared.entry.NativeEntry.TheVariants.{NewOf, OfList};
 ghost use Rattle.py_node.specs.declared.entry.ListNative.TheVariants as list;
-ghost use Rattle.class_world.specs.Claims.{of_ended, Leaves};
-ghost use Rattle.class_world.specs.Rows.{EndsAs};
-ghost use Rattle.class_world.specs.Sound.{AllHold, AreNodes, Grows, Holding, Holds, IsClass, IsNode, IsOf};
 ghost use Rattle.native_containers.specs.NativeParts.Makers.{list_filled};
 ghost use Rattle.native_containers.specs.NativeParts.Rows.{Resumes, Starts, of_parts_kept};
 

@@ -1,10 +1,8 @@
 //! What makes whole numbers and truth values of what an object gives.
 
-ghost use Rattle.std.specs.Prelude.{◌≡◌, Ok, Err, IfErr, IfOk};
+ghost use Rattle.native_containers.specs.Below.{Ok, Err, IfErr, IfOk, NewOf, of_step, Leaves, AllHold, AreNodes, Holds, IsClass, IsNode, IsOf};
+ghost use Rattle.std.specs.Prelude.{◌≡◌};
 ghost use Rattle.py_node.specs.declared.built_in.BuiltIn.TheVariants as built_in;
-ghost use Rattle.py_node.specs.declared.entry.NativeEntry.TheVariants.{NewOf};
-ghost use Rattle.class_world.specs.Claims.{of_step, Leaves};
-ghost use Rattle.class_world.specs.Sound.{AllHold, AreNodes, Holds, IsClass, IsNode, IsOf};
 ghost use Rattle.native_containers.specs.NativeParts.Rows.{Resumes, Starts, of_parts_kept};
 
 use crate::native_parts::PartsKept;

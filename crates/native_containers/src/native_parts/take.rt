@@ -1,14 +1,8 @@
 //! What these natives take: a container, alone, or an object and at most one argument, and what they read of those.
 
-ghost use Rattle.std.specs.Prelude.{◌≡◌, [], ◌∷◌, ◌++◌, map, Err, IfErr, IfOk, IfSome, IsTrue, Option, Some, None, slice_get};
-ghost use Rattle.plain_machine.specs.Plain.{PlainWorld, Said, Ends};
-ghost use Rattle.plain_machine.specs.World.{datum_at};
+ghost use Rattle.native_containers.specs.Below.{[], map, Err, IfErr, IfOk, IfSome, IsTrue, Option, Some, None, slice_get, PlainWorld, Said, Ends, datum_at, PyObjectRef as Object, Held, Reading, bindings, plain, AreNodes, Holding, Holds, IsNode, is_of};
+ghost use Rattle.std.specs.Prelude.{◌≡◌, ◌∷◌, ◌++◌};
 ghost use Rattle.py_node.specs.declared.built_in.BuiltIn.TheVariants as built_in;
-ghost use Rattle.py_node.specs.declared.refs.PyObjectRef.{PyObjectRef as Object};
-ghost use Rattle.class_world.specs.Held.{Held};
-ghost use Rattle.class_world.specs.Reading.{Reading, bindings, plain};
-ghost use Rattle.class_world.specs.Sound.{AreNodes, Holding, Holds, IsNode};
-ghost use Rattle.row_kit.specs.TakeContainers.{is_of};
 ghost use Rattle.native_containers.specs.Take.{with_lone, with_own};
 ghost use Rattle.row_kit.specs.declared.take_containers.Kind.TheVariants as kind;
 ghost use Rattle.native_containers.specs.NativeParts.Makers.{with_one_at_most};

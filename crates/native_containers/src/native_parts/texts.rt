@@ -1,11 +1,7 @@
 //! The texts of tuples, lists and dicts, which are made of those of their parts.
 
-ghost use Rattle.std.specs.Prelude.{◌≡◌, ◌++◌, Ok, Err, IfErr, IfOk, OnOk, string_bytes};
-ghost use Rattle.class_world.specs.Claims.{of_ended, Leaves};
-ghost use Rattle.class_world.specs.Reading.{Reading, plain};
-ghost use Rattle.class_world.specs.Rows.{EndsAs, LeavesEnd};
-ghost use Rattle.class_world.specs.Sound.{AllHold, AreNodes, Holds, IsNode};
-ghost use Rattle.row_kit.specs.Say.{in_length};
+ghost use Rattle.native_containers.specs.Below.{Ok, Err, IfErr, IfOk, OnOk, string_bytes, of_ended, Leaves, Reading, plain, EndsAs, LeavesEnd, AllHold, AreNodes, Holds, IsNode, in_length};
+ghost use Rattle.std.specs.Prelude.{◌≡◌, ◌++◌};
 ghost use Rattle.native_containers.specs.NativeParts.Rows.{IsNoObject, Resumes, Starts, Takes, left, of_parts, of_parts_kept, repr_of};
 ghost use Rattle.native_containers.specs.NativeParts.Texts.{before, closing, container_text, opening, text_at, text_ends, text_row, texts_at};
 

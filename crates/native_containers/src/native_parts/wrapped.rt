@@ -1,14 +1,7 @@
 //! The texts of class methods and static methods.
 
-ghost use Rattle.std.specs.Prelude.{◌≡◌, ◌∷◌, [], Ok, Err, IfErr, IfOk, Option, string_bytes};
-ghost use Rattle.py_node.specs.declared.refs.PyObjectRef.{PyObjectRef as Object};
-ghost use Rattle.plain_machine.specs.Plain.{Said, Ends};
-ghost use Rattle.plain_machine.specs.World.{datum_at};
-ghost use Rattle.class_world.specs.Claims.{of_answer, of_step, Leaves};
-ghost use Rattle.class_world.specs.Reading.{Reading, plain};
-ghost use Rattle.class_world.specs.Sound.{AllHold, AreNodes, Holds, IsNode, of_option, of_node_ref};
-ghost use Rattle.row_kit.specs.Say.{in_length};
-ghost use Rattle.row_kit.specs.TakeClasses.{with_own};
+ghost use Rattle.native_containers.specs.Below.{[], Ok, Err, IfErr, IfOk, Option, string_bytes, PyObjectRef as Object, Said, Ends, datum_at, of_answer, of_step, Leaves, Reading, plain, AllHold, AreNodes, Holds, IsNode, of_option, of_node_ref, in_length, with_own};
+ghost use Rattle.std.specs.Prelude.{◌≡◌, ◌∷◌};
 ghost use Rattle.native_containers.specs.NativeParts.Rows.{Resumes, Starts, of_parts_kept, repr_of_wrapper};
 ghost use Rattle.native_containers.specs.NativeParts.Texts.{text_at, wrapped_in, wrapper_name, wrapper_text};
 

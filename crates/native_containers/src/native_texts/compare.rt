@@ -1,10 +1,7 @@
 //! The comparisons of texts, by name.
 
 ghost use Rattle.std.specs.Prelude.{◌≡◌};
-ghost use Rattle.class_world.specs.Reading.{Reading, bindings};
-ghost use Rattle.class_world.specs.Claims.{of_ended};
-ghost use Rattle.class_world.specs.Sound.{AllHold, AreNodes, Holds};
-ghost use Rattle.class_world.specs.Rows.{EndsAs};
+ghost use Rattle.native_containers.specs.Below.{Reading, bindings, of_ended, AllHold, AreNodes, Holds, EndsAs};
 ghost use Rattle.native_containers.specs.NativeTexts.Say.{compare_text_say, order_by};
 
 use crate::native_texts::take::{text_and, text_of};

@@ -1,7 +1,7 @@
 //! What natives make of texts: their length, their hash, and their form in Python's syntax.
 
-ghost use Rattle.std.specs.Prelude.{◌≡◌, ◌++◌, OnOk, IfOk, string_bytes};
-ghost use Rattle.std.specs.Str.{IsUtf8};
+ghost use Rattle.native_containers.specs.Below.{OnOk, IfOk, string_bytes, IsUtf8};
+ghost use Rattle.std.specs.Prelude.{◌≡◌, ◌++◌};
 ghost use Rattle.native_containers.specs.NativeTexts.Texts.{text_length, hash_of, text_hash, repr_byte, repr_text, stands_in};
 
 use py_node::OutOfMemory;

@@ -1,13 +1,7 @@
 //! What the natives of texts take: an object that holds a text, alone or with one argument.
 
-ghost use Rattle.std.specs.Prelude.{◌≡◌, Err, IfErr, IfOk, option_map};
-ghost use Rattle.plain_machine.specs.Plain.{Said, Ends};
-ghost use Rattle.plain_machine.specs.World.{datum_at};
-ghost use Rattle.py_node.specs.declared.refs.PyObjectRef.{PyObjectRef as Object};
-ghost use Rattle.py_node.specs.Tree.{Text};
-ghost use Rattle.class_world.specs.Reading.{Reading, bindings, plain};
-ghost use Rattle.class_world.specs.Sound.{AreNodes, IsNode, Holds};
-ghost use Rattle.row_kit.specs.TakeTexts.{text_of};
+ghost use Rattle.native_containers.specs.Below.{Err, IfErr, IfOk, option_map, Said, Ends, datum_at, PyObjectRef as Object, Text, Reading, bindings, plain, AreNodes, IsNode, Holds, text_of};
+ghost use Rattle.std.specs.Prelude.{◌≡◌};
 ghost use Rattle.native_containers.specs.NativeTexts.Say.{with_own_text, with_lone_text, with_text_and};
 
 use class_world::World;

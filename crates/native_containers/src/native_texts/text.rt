@@ -1,11 +1,7 @@
 //! The natives of texts.
 
-ghost use Rattle.std.specs.Prelude.{◌≡◌, IfOk};
-ghost use Rattle.class_world.specs.Claims.{of_ended};
-ghost use Rattle.class_world.specs.Reading.{Reading, bindings, plain};
-ghost use Rattle.class_world.specs.Sound.{AllHold, AreNodes, Holds, IsNode};
-ghost use Rattle.class_world.specs.Rows.{EndsAs, LeavesEnd};
-ghost use Rattle.plain_machine.specs.World.{class_at};
+ghost use Rattle.native_containers.specs.Below.{IfOk, of_ended, Reading, bindings, plain, AllHold, AreNodes, Holds, IsNode, EndsAs, LeavesEnd, class_at};
+ghost use Rattle.std.specs.Prelude.{◌≡◌};
 ghost use Rattle.native_containers.specs.NativeTexts.Say.{is_str, str_add, str_contains, str_hash, str_iter, str_len, str_repr, str_str, str_upper, text_say};
 
 use crate::native_texts::of_bytes::{repr_text, stands_in, text_hash, text_length};

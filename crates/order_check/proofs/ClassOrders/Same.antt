@@ -1,16 +1,7 @@
 -- A hierarchy and a table that have the same classes.
-use Rattle.std.proofs.Common.{◌≡◌, ℕ, zero, suc, ◌+◌, ◌≤◌, Bool, true, false, cond, eqb, List, [], ◌∷◌, ◌++◌, length, take, map, Option, Some, None, inl, inr, refl, sym, ap, subst, ◌∙◌, arith}
-use Rattle.std.specs.Prelude.{leb, option_map, slice_get}
-use Rattle.std.proofs.lemmas.Bool.{leb-true, and_parts}
-use Rattle.py_node.specs.Tree.{Text}
-use Rattle.class_model.specs.Order.{Includes, Distinct, linear}
-use Rattle.class_model.specs.Class.{Class, Classes, class_at, bases_of, lin}
-use Rattle.class_model.specs.Numbers.{numbers_of, ascend_from}
-use Rattle.class_model.proofs.Linear.{linear-same}
-use Rattle.class_model.proofs.Numbers.{at-here, at-past, at-number, no-less}
-use Rattle.order_check.specs.declared.hierarchy.Entry.{Entry}
-use Rattle.order_check.specs.Hierarchy.{class_of, classes, keys_of, order_in, all_orders, AreKeyed}
-use Rattle.order_check.specs.ClassOrders.Shown.{Shown, shown, class_shown}
+use Rattle.order_check.proofs.Below.{ℕ, zero, suc, Bool, true, false, cond, eqb, List, [], length, take, map, Option, Some, None, inl, inr, refl, sym, ap, subst, ◌∙◌, arith, leb, option_map, slice_get, leb-true, and_parts, Text, Includes, Distinct, linear, Class, Classes, class_at, bases_of, lin, numbers_of, ascend_from, linear-same, at-here, at-past, at-number, no-less, Entry, class_of, classes, keys_of, order_in, all_orders, AreKeyed, Shown, class_shown}
+use Rattle.std.proofs.Common.{◌≡◌, ◌+◌, ◌≤◌, ◌∷◌, ◌++◌}
+use Rattle.order_check.specs.ClassOrders.Shown.{shown}
 
 not-less : (n : ℕ) (xs : List ℕ) (x : ℕ) → ascend_from n xs ≡ true → Includes xs x → n ≤ x
 not-less n [] x e i = absurd i

@@ -1,18 +1,9 @@
 -- Classes that are spelled, one after the other.
-use Rattle.std.proofs.Common.{◌≡◌, codes, ℕ, ◌+◌, ◌<◌, ◌≤◌, Bool, true, false, if◌then◌else◌, List, [], ◌∷◌, ◌++◌, length, get_or, drop, map, Option, Some, None, option_map, is_some, string_bytes, refl, ap, sym, ◌∙◌, add-one, suc}
-use Rattle.std.specs.Prelude.{option_and_then}
-use Rattle.std.proofs.Math.Seq.{drop-cons}
-use Rattle.std.proofs.lemmas.List.{append-nil, drop_all, map-append}
-use Rattle.serde_json.specs.Data.{Data, Items, no_items, item}
-use Rattle.serde_json.specs.Find.{as_str}
-use Rattle.serde_json.specs.View.{view, items_view}
-use Rattle.serde_json.specs.declared.value.Value.{Value}
-use Rattle.py_node.specs.Tree.{Text}
-use Rattle.script_text.specs.JsonText.Texts.{of_two, texts_in}
-use Rattle.script_text.proofs.JsonText.Lists.{onto, onto-found}
-use Rattle.order_check.specs.declared.hierarchy.Entry.{Entry}
-use Rattle.order_check.specs.HierarchyText.Spelled.{Named, PlainClass, and_after, class_after, classes_after, first_class, key_of, keyed, keys_of, named, named_of, or_first, plain_class, with_first}
-use Rattle.order_check.specs.HierarchyText.Items.{base_key, base_keys, class_at}
+use Rattle.order_check.proofs.Below.{ℕ, Bool, true, false, List, [], length, get_or, drop, map, Option, Some, None, refl, ap, sym, ◌∙◌, add-one, suc, option_and_then, drop-cons, drop_all, map-append, Data, Items, no_items, item, as_str, view, items_view, Value, Text, of_two, texts_in, onto, onto-found, Entry, Named, PlainClass, and_after, class_after, classes_after, first_class, key_of, keyed, named, named_of, or_first, plain_class, with_first, base_key, base_keys}
+use Rattle.std.proofs.Common.{◌≡◌, codes, ◌+◌, ◌<◌, ◌≤◌, if◌then◌else◌, ◌∷◌, ◌++◌, option_map, is_some, string_bytes}
+use Rattle.std.proofs.lemmas.List.{append-nil}
+use Rattle.order_check.specs.HierarchyText.Spelled.{keys_of}
+use Rattle.order_check.specs.HierarchyText.Items.{class_at}
 
 -- the bases of a class
 

@@ -1,22 +1,9 @@
 -- The classes that are spelled have the keys from 0 on, and their bases come before them.
-use Rattle.std.proofs.Common.{◌≡◌, ℕ, zero, suc, ◌+◌, ◌<◌, ◌≤◌, nat_lt, Bool, true, false, cond, if◌then◌else◌, List, [], ◌∷◌, ◌++◌, length, take, map, Option, Some, None, option_map, Ok, Err, ok_or, is_some, inl, inr, refl, sym, subst, ◌∙◌, arith, codes}
-use Rattle.std.specs.Prelude.{IfOk, Result, bytes_eq, slice_get}
-use Rattle.std.specs.List.{position_or_len}
-use Rattle.std.proofs.lemmas.Bool.{ltb-true}
-use Rattle.std.proofs.lemmas.List.{length-append}
-use Rattle.std.proofs.lemmas.Option.{slice_get_within}
-use Rattle.serde_json.specs.Data.{Data, null, boolean, number, string, array, object, Items, no_items, item}
-use Rattle.py_node.specs.Tree.{Text}
-use Rattle.script_text.specs.JsonText.Texts.{of_two}
-use Rattle.script_text.specs.declared.json_text.error.ScriptFault.{ScriptFault}
-use Rattle.script_text.specs.declared.json_text.error.ScriptError.TheVariants.{Shape}
-use Rattle.class_model.specs.Order.{Includes, Distinct}
-use Rattle.order_check.specs.declared.hierarchy.Entry.{Entry}
-use Rattle.order_check.specs.declared.hierarchy.Hierarchy.{Hierarchy}
-use Rattle.order_check.specs.Hierarchy.{IsInOrder}
+use Rattle.order_check.proofs.Below.{ℕ, zero, suc, nat_lt, Bool, true, false, cond, List, [], length, take, map, Option, Some, None, Ok, ok_or, inl, inr, refl, sym, subst, ◌∙◌, arith, IfOk, Result, bytes_eq, slice_get, position_or_len, ltb-true, length-append, slice_get_within, Data, null, boolean, number, string, array, object, Items, no_items, item, Text, of_two, ScriptFault, Shape, Includes, Distinct, Entry, Hierarchy, IsInOrder, Named, PlainClass, and_after, class_after, classes_after, classes_in, classes_of, key_of, keyed, named_of, or_first, plain_class, with_first}
+use Rattle.std.proofs.Common.{◌≡◌, ◌+◌, ◌<◌, ◌≤◌, if◌then◌else◌, ◌∷◌, ◌++◌, option_map, Err, is_some, codes}
 use Rattle.order_check.specs.Hierarchy as hierarchy
 use Rattle.order_check.proofs.Paired.{before-or-at}
-use Rattle.order_check.specs.HierarchyText.Spelled.{Named, PlainClass, and_after, class_after, classes_after, classes_in, classes_of, key_of, keyed, keys_of, named_of, or_first, plain_class, with_first}
+use Rattle.order_check.specs.HierarchyText.Spelled.{keys_of}
 
 -- each of some numbers is below n
 abbrev AreBelow : List ℕ → ℕ → Type 0

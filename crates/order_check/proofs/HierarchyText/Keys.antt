@@ -1,15 +1,6 @@
 -- The keys of names, where the code holds the names by reference.
-use Rattle.std.proofs.Common.{◌≡◌, ℕ, suc, ◌+◌, ◌<◌, ◌≤◌, nat_lt, Bool, true, false, not, ◌||◌, cond, List, [], ◌∷◌, length, map, Option, Some, None, is_some, position, refl, ap, sym, ◌∙◌, arith}
-use Rattle.std.specs.Borrow.{Bor}
-use Rattle.std.specs.List.{list_any, position_or_len}
-use Rattle.std.specs.Prelude.{bytes_eq, option_and_then}
-use Rattle.std.proofs.lemmas.Bool.{lt-ltb, le-ltb}
-use Rattle.std.proofs.lemmas.List.{length-map}
-use Rattle.serde_json.specs.Data.{Data}
-use Rattle.serde_json.specs.Find.{as_str}
-use Rattle.py_node.specs.Tree.{Text}
-use Rattle.order_check.specs.HierarchyText.Spelled.{key_of}
-use Rattle.order_check.specs.HierarchyText.Items.{texts, base_key}
+use Rattle.order_check.proofs.Below.{ℕ, suc, nat_lt, Bool, true, false, not, cond, List, [], length, map, Option, Some, None, position, refl, ap, sym, ◌∙◌, arith, Bor, list_any, position_or_len, bytes_eq, option_and_then, lt-ltb, le-ltb, length-map, Data, as_str, Text, key_of, texts, base_key}
+use Rattle.std.proofs.Common.{◌≡◌, ◌+◌, ◌<◌, ◌≤◌, ◌||◌, ◌∷◌, is_some}
 
 module _ {A B : Type 0} (f : A → B) (p : B → Bool) where
   position_or_len-map : (xs : List A) → position_or_len p (map f xs) ≡ position_or_len (λ x. p (f x)) xs

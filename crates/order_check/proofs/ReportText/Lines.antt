@@ -1,9 +1,6 @@
 -- Each class with its line, as far as a loop has come.
-use Rattle.std.proofs.Common.{◌≡◌, ℕ, zero, suc, ◌<◌, List, [], ◌∷◌, ◌++◌, length, drop, min, get_or, refl, sym, ap, ◌∙◌, arith, append_assoc, append-nil}
-use Rattle.py_node.specs.Tree.{Text}
-use Rattle.order_check.specs.declared.hierarchy.Entry.{Entry}
-use Rattle.order_check.specs.declared.report.Line.{Line}
-use Rattle.order_check.specs.ReportText.ReportText.{line_text, lines_text}
+use Rattle.order_check.proofs.Below.{ℕ, zero, suc, List, [], length, drop, min, get_or, refl, sym, ap, ◌∙◌, arith, append_assoc, append-nil, Text, Entry, Line, line_text, lines_text}
+use Rattle.std.proofs.Common.{◌≡◌, ◌<◌, ◌∷◌, ◌++◌}
 
 module _ (h : List Entry) where
   -- one line comes first, where there is a class and a line

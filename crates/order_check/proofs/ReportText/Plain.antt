@@ -1,28 +1,10 @@
 -- The text of a right report, whose cycles are those that are found, is what its plain classes tell.
-use Rattle.std.proofs.Common.{◌≡◌, ℕ, zero, suc, cond, eqb, List, [], ◌∷◌, ◌++◌, length, map, Option, Some, None, refl, sym, ap, ◌∙◌}
-use Rattle.std.specs.Prelude.{codes, is_none, option_and_then, slice_get, string_bytes}
-use Rattle.std.specs.List.{flat_map, filter_map, cons_option}
-use Rattle.class_model.specs.Order.{least_order, all_some, Includes}
-use Rattle.class_model.specs.Class.{Class, bases_of, lin}
-use Rattle.class_model.proofs.Arranged.{least_order-order}
-use Rattle.class_model.proofs.Linear.{all_some-holds}
-use Rattle.class_model.proofs.Lines.{all_some-some}
-use Rattle.class_model.proofs.Rule.{lin-rule}
-use Rattle.plain_machine.specs.Escapes.{escaped}
-use Rattle.order_check.specs.declared.hierarchy.Entry.{Entry}
-use Rattle.order_check.specs.declared.report.Line.{Line}
-use Rattle.order_check.specs.declared.report.Line.TheVariants.{Order, Cycle, Without}
-use Rattle.order_check.specs.Cycle.{IsCycle}
-use Rattle.order_check.specs.Hierarchy.{class_of, classes, order_in, name_in, AreKeyed}
-use Rattle.order_check.specs.Orders.{lists_of}
-use Rattle.order_check.specs.Report.{first_without, OnBoth, IsLine, IsFoundLine, IsReport, AreFound}
+use Rattle.order_check.proofs.Below.{ℕ, zero, suc, cond, eqb, List, [], length, map, Option, Some, None, refl, sym, ap, ◌∙◌, codes, is_none, option_and_then, slice_get, string_bytes, flat_map, filter_map, cons_option, least_order, all_some, Includes, Class, bases_of, lin, least_order-order, all_some-holds, all_some-some, lin-rule, escaped, Entry, Line, Order, Cycle, Without, IsCycle, class_of, classes, order_in, name_in, AreKeyed, lists_of, first_without, OnBoth, IsLine, IsFoundLine, IsReport, AreFound, plain_class, shown, line_of, cycle_shown, line_text, lines_text, report_text, model_class, order_among, name_among, shown_among, cycle_pairs, line_from, line_by, plain_line, plain_report}
+use Rattle.std.proofs.Common.{◌≡◌, ◌∷◌, ◌++◌}
 use Rattle.order_check.proofs.ClassFact.{ordered_or_cyclic}
 use Rattle.order_check.proofs.Knowing.{never-below}
 use Rattle.order_check.proofs.Places.{bases-of_entry}
 use Rattle.order_check.proofs.Telling.{first_without-none, based, order-rule}
-use Rattle.order_check.specs.HierarchyText.Spelled.{plain_class}
-use Rattle.order_check.specs.ReportText.ReportText.{shown, line_of, cycle_shown, line_text, lines_text, report_text}
-use Rattle.order_check.specs.ReportText.PlainReport.{model_class, order_among, name_among, shown_among, cycle_pairs, line_from, line_by, plain_line, plain_report}
 
 -- names and orders are those of the plain classes
 

@@ -1,7 +1,5 @@
 -- What a hierarchy has of a class.
-use Rattle.std.specs.Prelude.{ℕ, List, string_bytes}
-use Rattle.py_node.specs.Tree.{Text}
-use Rattle.class_model.specs.Class.{Class}
+use Rattle.order_check.specs.Below.{ℕ, List, string_bytes, Text, Class}
 use Rattle.order_check.specs.declared.hierarchy.Entry.{Entry}
 
 -- its number, its name and its bases

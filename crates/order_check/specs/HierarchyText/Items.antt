@@ -1,10 +1,6 @@
 -- The bases of a class as the reader takes them, item by item. No public contract names these.
-use Rattle.std.specs.Prelude.{ℕ, List, [], ◌∷◌, map, Option, Some, option_and_then}
-use Rattle.std.specs.Borrow.{Bor}
-use Rattle.serde_json.specs.Data.{Data, Items, no_items, item}
-use Rattle.serde_json.specs.Find.{as_str}
-use Rattle.py_node.specs.Tree.{Text}
-use Rattle.script_text.specs.JsonText.Texts.{of_two}
+use Rattle.order_check.specs.Below.{ℕ, List, [], map, Option, Some, option_and_then, Bor, Data, Items, no_items, item, as_str, Text, of_two}
+use Rattle.std.specs.Prelude.{◌∷◌}
 use Rattle.order_check.specs.HierarchyText.Spelled.{PlainClass, key_of, named_of, class_after}
 
 -- the names that the code lends

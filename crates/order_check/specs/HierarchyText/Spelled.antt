@@ -1,13 +1,6 @@
 -- The classes that a text spells, each with its bases, or why it spells none.
-use Rattle.std.specs.Prelude.{ℕ, List, [], ◌∷◌, ◌++◌, length, codes, bytes_eq, if◌then◌else◌, Option, Some, None, is_some, option_map, ok_or, Result, Ok, Err, string_bytes}
-use Rattle.std.specs.List.{position}
-use Rattle.serde_json.specs.Data.{Data, null, boolean, number, string, array, object, Items, no_items, item}
-use Rattle.serde_json.specs.Find.{as_str}
-use Rattle.py_node.specs.Tree.{Text}
-use Rattle.script_text.specs.declared.json_text.error.ScriptError.{ScriptError}
-use Rattle.script_text.specs.declared.json_text.error.ScriptError.TheVariants.{NoCommand, Shape}
-use Rattle.script_text.specs.JsonText.Json.{json_of}
-use Rattle.script_text.specs.JsonText.Texts.{of_two, texts_in}
+use Rattle.order_check.specs.Below.{ℕ, List, [], length, codes, bytes_eq, Option, Some, None, is_some, option_map, ok_or, Result, Ok, Err, string_bytes, position, Data, null, boolean, number, string, array, object, Items, no_items, item, as_str, Text, ScriptError, NoCommand, Shape, json_of, of_two, texts_in}
+use Rattle.std.specs.Prelude.{◌∷◌, ◌++◌, if◌then◌else◌}
 use Rattle.order_check.specs.declared.hierarchy.Entry.{Entry}
 
 -- a class as it is spelled: its name, and its bases by their names

@@ -1,9 +1,6 @@
 -- What is written of a hierarchy: of each class but the first its linearisation, or else why it has none.
-use Rattle.std.specs.Prelude.{ℕ, false, cond, eqb, List, [], ◌∷◌, drop, map, codes, Option, Some, None}
-use Rattle.std.specs.List.{flat_map, filter_map}
-use Rattle.py_node.specs.Tree.{Text}
-use Rattle.class_model.specs.Class.{Class, lin}
-use Rattle.plain_machine.specs.Escapes.{escaped}
+use Rattle.order_check.specs.Below.{ℕ, false, cond, eqb, List, [], drop, map, codes, Option, Some, None, flat_map, filter_map, Text, Class, lin, escaped}
+use Rattle.std.specs.Prelude.{◌∷◌}
 use Rattle.order_check.specs.declared.report.Pair.{Pair}
 use Rattle.order_check.specs.Found.{cycle_of}
 use Rattle.order_check.specs.Orders.{lists_of}

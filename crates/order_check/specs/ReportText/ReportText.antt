@@ -1,8 +1,6 @@
 -- What is written of a report.
-use Rattle.std.specs.Prelude.{ℕ, List, [], ◌∷◌, ◌++◌, drop, map, codes, Option, Some, None, string_bytes}
-use Rattle.py_node.specs.Tree.{Text}
-use Rattle.plain_machine.specs.Escapes.{escaped}
-use Rattle.plain_machine.specs.Lines.{joined, end_of_line}
+use Rattle.order_check.specs.Below.{ℕ, List, [], drop, map, codes, Option, Some, None, string_bytes, Text, escaped, joined, end_of_line}
+use Rattle.std.specs.Prelude.{◌∷◌, ◌++◌}
 use Rattle.order_check.specs.declared.hierarchy.Entry.{Entry}
 use Rattle.order_check.specs.declared.report.Pair.{Pair}
 use Rattle.order_check.specs.declared.report.Line.{Line}

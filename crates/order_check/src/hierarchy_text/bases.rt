@@ -1,7 +1,7 @@
 //! The bases of a class, by their keys.
 
-ghost use Rattle.std.specs.Prelude.{◌≡◌, Some, None, Err, IfOk, IfErr, option_map};
-ghost use Rattle.serde_json.specs.View.{view, items_view};
+ghost use Rattle.order_check.specs.Below.{Some, None, Err, IfOk, IfErr, option_map, view, items_view};
+ghost use Rattle.std.specs.Prelude.{◌≡◌};
 ghost use Rattle.order_check.specs.HierarchyText.Spelled.{or_first};
 ghost use Rattle.order_check.specs.HierarchyText.Items.{texts, base_key, base_keys};
 

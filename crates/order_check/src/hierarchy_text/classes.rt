@@ -1,7 +1,7 @@
 //! The classes that some items spell, one after the other.
 
-ghost use Rattle.std.specs.Prelude.{◌≡◌, ◌+◌, List, [], ◌∷◌, ◌++◌, length, map, codes, true, Some, None, Err, is_some, IfOk, option_map, string_bytes};
-ghost use Rattle.serde_json.specs.View.{view, items_view};
+ghost use Rattle.order_check.specs.Below.{List, [], length, map, codes, true, Some, None, Err, is_some, IfOk, option_map, string_bytes, view, items_view};
+ghost use Rattle.std.specs.Prelude.{◌≡◌, ◌+◌, ◌∷◌, ◌++◌};
 ghost use Rattle.order_check.specs.HierarchyText.Spelled.{classes_after, first_class, key_of, plain_class, with_first};
 ghost use Rattle.order_check.specs.HierarchyText.Items.{texts, class_at};
 

@@ -1,9 +1,7 @@
 //! The parts of a class as it is spelled.
 
-ghost use Rattle.std.specs.Prelude.{◌≡◌, None, IfOk, IfErr, option_map};
-ghost use Rattle.serde_json.specs.Data.{array};
-ghost use Rattle.serde_json.specs.View.{view, items_view};
-ghost use Rattle.script_text.specs.JsonText.Texts.{texts_in};
+ghost use Rattle.order_check.specs.Below.{None, IfOk, IfErr, option_map, array, view, items_view, texts_in};
+ghost use Rattle.std.specs.Prelude.{◌≡◌};
 ghost use Rattle.order_check.specs.HierarchyText.Spelled.{names_of, named, named_of};
 
 use script_text::json_text::Unread;

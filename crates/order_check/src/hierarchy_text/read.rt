@@ -1,8 +1,7 @@
 //! The classes that a text spells.
 
-ghost use Rattle.std.specs.Prelude.{◌≡◌, IfOk, Ok, Err, map};
-ghost use Rattle.serde_json.specs.View.{view, items_view};
-ghost use Rattle.script_text.specs.declared.json_text.error.ScriptError.{ScriptError as Refusal};
+ghost use Rattle.order_check.specs.Below.{IfOk, Ok, Err, map, view, items_view, ScriptError as Refusal};
+ghost use Rattle.std.specs.Prelude.{◌≡◌};
 ghost use Rattle.order_check.specs.Hierarchy.{IsInOrder};
 ghost use Rattle.order_check.specs.HierarchyText.Spelled.{hierarchy_of, classes_in, classes_of, plain_class};
 

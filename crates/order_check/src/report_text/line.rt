@@ -1,7 +1,7 @@
 //! The line of a class.
 
-ghost use Rattle.std.specs.Prelude.{◌≡◌, ◌++◌, codes, OnOk};
-ghost use Rattle.plain_machine.specs.Escapes.{escaped};
+ghost use Rattle.order_check.specs.Below.{codes, OnOk, escaped};
+ghost use Rattle.std.specs.Prelude.{◌≡◌, ◌++◌};
 ghost use Rattle.order_check.specs.Hierarchy.{AreKeyed};
 ghost use Rattle.order_check.specs.ReportText.ReportText.{line_word, line_told, line_text};
 

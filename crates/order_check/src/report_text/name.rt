@@ -1,6 +1,7 @@
 //! The names of classes.
 
-ghost use Rattle.std.specs.Prelude.{◌≡◌, ◌++◌, OnOk};
+ghost use Rattle.order_check.specs.Below.{OnOk};
+ghost use Rattle.std.specs.Prelude.{◌≡◌, ◌++◌};
 ghost use Rattle.order_check.specs.Hierarchy.{AreKeyed};
 ghost use Rattle.order_check.specs.ReportText.ReportText.{shown, order_shown};
 

@@ -1,6 +1,7 @@
 //! The pairs of a cycle.
 
-ghost use Rattle.std.specs.Prelude.{◌≡◌, ◌++◌, OnOk};
+ghost use Rattle.order_check.specs.Below.{OnOk};
+ghost use Rattle.std.specs.Prelude.{◌≡◌, ◌++◌};
 ghost use Rattle.order_check.specs.Hierarchy.{AreKeyed};
 ghost use Rattle.order_check.specs.ReportText.ReportText.{shown, list_shown, pair_shown, cycle_shown};
 

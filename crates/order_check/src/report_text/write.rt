@@ -1,6 +1,7 @@
 //! The lines of a report.
 
-ghost use Rattle.std.specs.Prelude.{◌≡◌, ◌++◌, map, OnOk, IfOk};
+ghost use Rattle.order_check.specs.Below.{map, OnOk, IfOk};
+ghost use Rattle.std.specs.Prelude.{◌≡◌, ◌++◌};
 ghost use Rattle.order_check.specs.Hierarchy.{AreKeyed};
 ghost use Rattle.order_check.specs.Report.{IsReport, AreFound};
 ghost use Rattle.order_check.specs.HierarchyText.Spelled.{plain_class};

@@ -1,11 +1,6 @@
 -- Lists of nodes without those in front.
-use Rattle.std.proofs.Common.{◌++◌, Option, Some, None, subst, sym, ◌≡◌, ◌∙◌, suc, ◌-◌, List, [], ◌∷◌, length, take, drop, refl, ap, arith}
-use Rattle.py_node.specs.declared.refs.PyObjectRef.{PyObjectRef}
-use Rattle.plain_machine.specs.Plain.{PlainWorld, Bindings, Said}
-use Rattle.plain_machine.specs.Takes.{with_one, with_two}
-use Rattle.proto_attr.specs.NativeCalls.Parts.{with_get}
-use Rattle.class_world.specs.Held.{Held}
-use Rattle.class_world.specs.Sound.{AreNodes, Holds}
+use Rattle.proto_attr.proofs.Below.{Option, Some, None, subst, sym, ◌∙◌, suc, List, [], length, take, drop, refl, ap, arith, PyObjectRef, PlainWorld, Bindings, Said, with_one, with_two, with_get, Held, AreNodes, Holds}
+use Rattle.std.proofs.Common.{◌++◌, ◌≡◌, ◌-◌, ◌∷◌}
 
 -- the first argument, and the rest
 pub rest-nodes : (w : Held) (rs : List PyObjectRef) → Holds w (AreNodes rs) → Holds w (AreNodes (drop 1 rs))

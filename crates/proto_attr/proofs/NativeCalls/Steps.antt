@@ -1,41 +1,10 @@
 -- How the steps of natives that ask follow from what their parts do.
-use Rattle.std.proofs.Common.{◌≡◌, ◌∙◌, List, [], ◌∷◌, ◌++◌, Result, Ok, Err, IfOk, refl, sym, subst, ap, ap₂}
-use Rattle.py_node.specs.declared.raised.Raised.{Raised as Fault}
-use Rattle.py_node.specs.declared.entry.NativeEntry.{NativeEntry}
-use Rattle.py_node.specs.declared.entry.NativeEntry.TheVariants.{NewOf}
-use Rattle.py_node.specs.declared.memory.OutOfMemory.{OutOfMemory}
-use Rattle.py_node.specs.declared.known.Known.TheVariants.{Get, Doc}
-use Rattle.py_node.specs.Known.{known_text}
-use Rattle.py_node.specs.declared.refs.PyTypeRef.{PyTypeRef}
-use Rattle.py_node.specs.declared.refs.PyStrInterned.{PyStrInterned}
-use Rattle.py_node.specs.declared.refs.PyObjectRef.{PyObjectRef}
-use Rattle.py_node.specs.declared.task.Answer.{Answer}
-use Rattle.py_node.specs.declared.task.Task.{Task}
-use Rattle.py_node.specs.declared.task.Step.{Step}
-use Rattle.py_node.specs.declared.task.Step.TheVariants.{Ask, End}
-use Rattle.plain_machine.specs.Plain.{PlainWorld, Said, Asks, Ends, Ended, Told, Answered, ReadObjects, DoGetAttr, DoSuperCheck, ToAttribute, ToDescriptor, ToNative}
-use Rattle.plain_machine.specs.World.{ref}
-use Rattle.class_world.specs.declared.world.World.{World}
-use Rattle.class_world.specs.Reading.{Reading, Reads, bindings, plain, task_of, ended_of}
-use Rattle.class_world.specs.Rows.{EndsAs, Goes, Steps}
-use Rattle.plain_machine.specs.Rows.{fresh}
+use Rattle.proto_attr.proofs.Below.{◌∙◌, List, [], Ok, Err, IfOk, refl, sym, subst, ap, ap₂, Raised as Fault, NativeEntry, NewOf, OutOfMemory, Get, Doc, known_text, PyTypeRef, PyStrInterned, PyObjectRef, Answer, Task, Step, Ask, End, PlainWorld, Said, Asks, Ends, Ended, Told, Answered, ReadObjects, DoGetAttr, DoSuperCheck, ToAttribute, ToDescriptor, ToNative, ref, World, Reading, Reads, bindings, plain, task_of, ended_of, EndsAs, Goes, Steps, fresh, EndsSo, StepsAs, class_method_by, start_asked, super_bound, none, named_end, Value, AfterDoc, Answering, Binding, NativeKept, ClassMethod, Super, Way, Binds, Marked, Wraps, Wrapper, Class, Static, asking_job_say, asking_rest, by_way, class_of_wrapper, none_end, none_said, way_of, way_rest, answering, asking_stands, marking}
+use Rattle.std.proofs.Common.{◌≡◌, ◌∷◌, ◌++◌, Result}
 use Rattle.proto_attr.specs.ProtoDescr.Rows as descriptors
-use Rattle.proto_attr.specs.ProtoDescr.Rows.{EndsSo, StepsAs}
-use Rattle.proto_attr.specs.ProtoDescr.Say.{class_method_by}
-use Rattle.proto_attr.specs.ProtoDescr.Supers.{start_asked, super_bound}
-use Rattle.plain_machine.specs.Row.{none}
-use Rattle.plain_machine.specs.Takes.{named_end}
-use Rattle.py_node.specs.declared.task.Answer.TheVariants.{Value}
-use Rattle.proto_attr.specs.declared.native_calls.NativeKept.TheVariants.{Pass, AfterGet, AfterDoc, Answering, Binding}
-use Rattle.proto_attr.specs.declared.native_calls.NativeKept.{NativeKept}
+use Rattle.proto_attr.specs.declared.native_calls.NativeKept.TheVariants.{Pass, AfterGet}
 use Rattle.proto_attr.specs.declared.native_calls.NativeKept.TheVariants as kept
-use Rattle.proto_attr.specs.declared.native_calls.way.Kind.TheVariants.{ClassMethod, Super}
-use Rattle.proto_attr.specs.declared.native_calls.way.Way.{Way}
-use Rattle.proto_attr.specs.declared.native_calls.way.Way.TheVariants.{Binds, Marked, Wraps}
-use Rattle.proto_attr.specs.declared.native_calls.way.Wrapper.{Wrapper}
-use Rattle.proto_attr.specs.declared.native_calls.way.Wrapper.TheVariants.{Class, Static}
-use Rattle.proto_attr.specs.NativeCalls.Say.{asking_job_say, asking_rest, by_way, class_of_wrapper, none_end, none_said, way_of, way_rest}
-use Rattle.proto_attr.specs.NativeCalls.Asks.{Does, Resumes, answering, asking_stands, marking, passed}
+use Rattle.proto_attr.specs.NativeCalls.Asks.{Does, Resumes, passed}
 
 ends-so : (s : Said) (r : Result Answer Fault) (new : PlainWorld) → EndsSo s r new → s ≡ Ends new (ended_of r)
 ends-so (Asks w learnt task) r new h = absurd h

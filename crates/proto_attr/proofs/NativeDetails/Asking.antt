@@ -1,24 +1,7 @@
 -- The steps by which a property tells whether it is abstract.
-use Rattle.std.proofs.Common.{◌≡◌, List, [], ◌∷◌, ◌++◌, Ok, false, refl, sym, ap, subst}
+use Rattle.proto_attr.proofs.Below.{List, [], Ok, false, refl, sym, ap, subst, Detail, GetterOf, Isabstractmethod, known_text, PyObjectRef, PyStrInterned, Ask, Task, PlainWorld, PlainTask, Answered, ReadObjects, DoGetAttr, ToAttribute, ToNative, Asks, read_objects, truth, datum_at, World, Reading, Reads, bindings, plain, task_of, Steps, argument, AfterGetter, AfterSetter, AfterBoth, Does, detail_stands, abstract_of, detail_job_say, joined, or_false, property_abstract, setter_at}
+use Rattle.std.proofs.Common.{◌≡◌, ◌∷◌, ◌++◌}
 use Rattle.py_node.specs.declared.built_in.BuiltIn.TheVariants.{Property}
-use Rattle.py_node.specs.declared.entry.Detail.{Detail}
-use Rattle.py_node.specs.declared.entry.NativeEntry.TheVariants.{GetterOf}
-use Rattle.py_node.specs.declared.known.Known.TheVariants.{Isabstractmethod}
-use Rattle.py_node.specs.Known.{known_text}
-use Rattle.py_node.specs.declared.refs.PyObjectRef.{PyObjectRef}
-use Rattle.py_node.specs.declared.refs.PyStrInterned.{PyStrInterned}
-use Rattle.py_node.specs.declared.task.Step.TheVariants.{Ask}
-use Rattle.py_node.specs.declared.task.Task.{Task}
-use Rattle.plain_machine.specs.Plain.{PlainWorld, PlainTask, Answered, ReadObjects, DoGetAttr, ToAttribute, ToNative, Asks}
-use Rattle.plain_machine.specs.Row.{read_objects, truth}
-use Rattle.plain_machine.specs.World.{datum_at}
-use Rattle.class_world.specs.declared.world.World.{World}
-use Rattle.class_world.specs.Reading.{Reading, Reads, bindings, plain, task_of}
-use Rattle.class_world.specs.Rows.{Steps}
-use Rattle.row_kit.specs.Asking.{argument}
-use Rattle.proto_attr.specs.declared.native_details.DetailKept.TheVariants.{AfterGetter, AfterSetter, AfterBoth}
-use Rattle.proto_attr.specs.NativeDetails.Rows.{Does, detail_stands}
-use Rattle.proto_attr.specs.NativeDetails.Say.{abstract_of, detail_job_say, joined, or_false, property_abstract, setter_at}
 
 -- what asks an accessor
 abbrev pub whether : PyObjectRef → PlainTask

@@ -1,20 +1,7 @@
 -- The native that tells the qualified name of a member.
-use Rattle.std.proofs.Common.{◌≡◌, List, [], ◌∷◌, refl, sym, subst, ap}
-use Rattle.py_node.specs.declared.entry.NativeEntry.{NativeEntry}
+use Rattle.proto_attr.proofs.Below.{List, [], refl, sym, subst, ap, NativeEntry, PyObjectRef, PyStrInterned, Ask, Task, known_text, PlainTask, PlainWorld, Bindings, Answered, Asks, DoGetAttr, ReadObjects, ToAttribute, ToNative, Row, World, Reading, Reads, bindings, plain, task_of, Steps, AfterClass, Does, detail_stands, detail_job_say, details_native_say, member_name, member_qualname}
+use Rattle.std.proofs.Common.{◌≡◌, ◌∷◌}
 use Rattle.py_node.specs.declared.known.Known.TheVariants as known
-use Rattle.py_node.specs.declared.refs.PyObjectRef.{PyObjectRef}
-use Rattle.py_node.specs.declared.refs.PyStrInterned.{PyStrInterned}
-use Rattle.py_node.specs.declared.task.Step.TheVariants.{Ask}
-use Rattle.py_node.specs.declared.task.Task.{Task}
-use Rattle.py_node.specs.Known.{known_text}
-use Rattle.plain_machine.specs.Plain.{PlainTask, PlainWorld, Bindings, Answered, Asks, DoGetAttr, ReadObjects, ToAttribute, ToNative}
-use Rattle.plain_machine.specs.Row.{Row}
-use Rattle.class_world.specs.declared.world.World.{World}
-use Rattle.class_world.specs.Reading.{Reading, Reads, bindings, plain, task_of}
-use Rattle.class_world.specs.Rows.{Steps}
-use Rattle.proto_attr.specs.declared.native_details.DetailKept.TheVariants.{AfterClass}
-use Rattle.proto_attr.specs.NativeDetails.Rows.{Does, detail_stands}
-use Rattle.proto_attr.specs.NativeDetails.Say.{detail_job_say, details_native_say, member_name, member_qualname}
 
 -- the class of the member is asked for its own name
 pub name-asks : (n : NativeEntry) (args : List PyObjectRef) (kw : List (PyStrInterned × PyObjectRef)) (w : World) (m c : PyObjectRef) (asked : Task) → ((u : PlainWorld) (bs : List PyObjectRef) (kw : Bindings) → details_native_say u n bs kw ≡ member_qualname u bs kw) → ((t : Reading) → member_name (plain t w) args (bindings t kw) ≡ Asks (plain t w) (ReadObjects (m ∷ []) ∷ []) (ToAttribute (DoGetAttr c (known_text known.Qualname)))) → ((t : Reading) → Reads t w → task_of t asked ≡ ToAttribute (DoGetAttr c (known_text known.Qualname))) → Does n args (λ t. bindings t kw) (λ t u. member_name u args (bindings t kw)) w w (Ask asked (AfterClass m))

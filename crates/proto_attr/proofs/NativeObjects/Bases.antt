@@ -1,10 +1,6 @@
 -- The bases of a class have no names.
-use Rattle.std.proofs.Common.{◌≡◌, ℕ}
-use Rattle.class_model.specs.Class.{bases_of}
-use Rattle.class_model.specs.Layout.{base}
-use Rattle.class_model.proofs.Renamed.{bases_of-renamed, base-renamed}
-use Rattle.class_world.specs.Held.{Held}
-use Rattle.class_world.specs.Reading.{Reading, spelled, plain}
+use Rattle.proto_attr.proofs.Below.{ℕ, bases_of, base, bases_of-renamed, base-renamed, Held, Reading, spelled, plain}
+use Rattle.std.proofs.Common.{◌≡◌}
 
 pub bases-seen : (t : Reading) (w : Held) (c : ℕ) → bases_of (plain t w).classes c ≡ bases_of w.classes c
 unfolding plain

@@ -1,17 +1,6 @@
 -- The classes that objects are, one after another.
-use Rattle.std.proofs.Common.{◌≡◌, ℕ, zero, suc, ◌<◌, ◌≤◌, List, [], ◌∷◌, ◌++◌, length, drop, drop-cons, get_or, map, Option, Some, None, refl, sym, ap, ◌∙◌, subst, arith}
-use Rattle.std.specs.Prelude.{option_map}
-use Rattle.py_node.specs.declared.refs.PyObjectRef.{PyObjectRef}
-use Rattle.py_node.specs.declared.refs.PyTypeRef.{PyTypeRef}
-use Rattle.class_model.specs.Order.{all_some}
-use Rattle.class_table.specs.Keys.{numbers}
-use Rattle.plain_machine.specs.Objects.{class_number}
-use Rattle.plain_machine.specs.World.{datum_at}
-use Rattle.class_world.specs.declared.world.World.{World}
-use Rattle.class_world.specs.Reading.{Reading, plain}
-use Rattle.class_world.specs.Sound.{IsClass, Holds, AllHold, of_class_ref, of_each}
-use Rattle.class_world.proofs.Claims.{each-push}
-use Rattle.proto_attr.specs.NativeObjects.Setters.{all_classes}
+use Rattle.proto_attr.proofs.Below.{ℕ, zero, suc, List, [], length, drop, drop-cons, get_or, map, Option, Some, None, refl, sym, ap, ◌∙◌, subst, arith, option_map, PyObjectRef, PyTypeRef, all_some, numbers, class_number, datum_at, World, Reading, plain, IsClass, Holds, AllHold, of_class_ref, of_each, each-push, all_classes}
+use Rattle.std.proofs.Common.{◌≡◌, ◌<◌, ◌≤◌, ◌∷◌, ◌++◌}
 
 abbrev after : List ℕ → Option (List ℕ) → Option (List ℕ)
 after cs None = None

@@ -1,11 +1,7 @@
 -- Which getters are of classes.
-use Rattle.std.proofs.Common.{◌≡◌, List, refl}
-use Rattle.py_node.specs.declared.entry.Property.{Property}
+use Rattle.proto_attr.proofs.Below.{List, refl, Property, PyObjectRef, Bindings, PlainWorld, class_read, getter_say, with_lone_class}
+use Rattle.std.proofs.Common.{◌≡◌}
 use Rattle.py_node.specs.declared.entry.Property.TheVariants as property
-use Rattle.py_node.specs.declared.refs.PyObjectRef.{PyObjectRef}
-use Rattle.plain_machine.specs.Plain.{Bindings, PlainWorld}
-use Rattle.proto_attr.specs.NativeObjects.Getters.{class_read, getter_say}
-use Rattle.row_kit.specs.TakeClasses.{with_lone_class}
 
 pub of-classes : (u : PlainWorld) (p : Property) (args : List PyObjectRef) (kw : Bindings) → (p ≡ property.Class → ⊥) → (p ≡ property.InstanceDict → ⊥) → getter_say u p args kw ≡ with_lone_class u args kw (class_read u p)
 of-classes u property.Class args kw f g = absurd (f refl)

@@ -1,18 +1,8 @@
 -- The objects of an object's class hold what the object does.
-use Rattle.std.proofs.Common.{◌≡◌, ℕ, Option, Some, None, refl, ap, sym, ◌∙◌}
-use Rattle.std.specs.Prelude.{slice_get, option_map}
-use Rattle.py_node.specs.declared.built_in.BuiltIn.{BuiltIn}
-use Rattle.py_node.specs.declared.payload.Payload.{Payload}
+use Rattle.proto_attr.proofs.Below.{ℕ, Option, Some, None, refl, ap, sym, ◌∙◌, slice_get, option_map, BuiltIn, Payload, PyObjectRef, Datum, Node, home, held_by, IsSound, datum_at, Held, Reading, datum, plain, IsOf, Holding, Holds, home_of, by_line, line-seen}
+use Rattle.std.proofs.Common.{◌≡◌}
 use Rattle.py_node.specs.declared.payload.Payload.TheVariants as payload
-use Rattle.py_node.specs.declared.refs.PyObjectRef.{PyObjectRef}
-use Rattle.plain_machine.specs.Plain.{Datum, Node}
-use Rattle.plain_machine.specs.Sound.{home, held_by, IsSound}
-use Rattle.plain_machine.specs.World.{class_at, datum_at}
-use Rattle.class_world.specs.Held.{Held}
-use Rattle.class_world.specs.Reading.{Reading, datum, plain}
-use Rattle.class_world.specs.Sound.{IsOf, Holding, Holds, home_of}
-use Rattle.class_world.proofs.Homes.{by_line}
-use Rattle.class_world.proofs.OfClasses.{line-seen}
+use Rattle.plain_machine.specs.World.{class_at}
 
 held-read : (t : Reading) (w : Held) (c : ℕ) → held_by (plain t w).classes c ≡ held_by w.classes c
 held-read t w c = ap by_line (line-seen w w refl t c)

@@ -1,21 +1,7 @@
 -- What is listed of the attributes of a class.
-use Rattle.std.proofs.Common.{◌≡◌, ℕ, true, cond, [], Option, Some, None, sym, ap, ◌∙◌}
-use Rattle.std.specs.Prelude.{IfSome, option_map}
-use Rattle.py_node.specs.declared.known.Known.TheVariants.{Annotations}
-use Rattle.py_node.specs.declared.raised.Cause.TheVariants.{NoAttribute}
-use Rattle.py_node.specs.declared.refs.PyObjectRef.{PyObjectRef}
-use Rattle.py_node.specs.Known.{known_text}
-use Rattle.py_node.specs.Tree.{Text}
-use Rattle.class_model.specs.Class.{Class, class_at as class_numbered, own_of}
-use Rattle.class_model.specs.Collect.{attrs_of}
-use Rattle.class_model.specs.Slot.{is_heap_at}
-use Rattle.plain_machine.specs.Known.{the_dict}
-use Rattle.plain_machine.specs.Plain.{ADict, Bindings, PlainWorld, Ends}
-use Rattle.plain_machine.specs.Row.{value, fault}
-use Rattle.plain_machine.specs.World.{is_text, next_node, with_node, with_own_attr}
-use Rattle.class_world.specs.Held.{Held}
-use Rattle.class_world.specs.Sound.{AllHold, Holds, IsNode, of_node_ref, of_option}
-use Rattle.proto_attr.specs.NativeObjects.Attributes.{annotations, given_annotations}
+use Rattle.proto_attr.proofs.Below.{ℕ, true, cond, [], Option, Some, None, sym, ap, ◌∙◌, IfSome, option_map, Annotations, NoAttribute, PyObjectRef, known_text, Text, class_at as class_numbered, own_of, attrs_of, is_heap_at, the_dict, ADict, Bindings, PlainWorld, Ends, value, fault, is_text, next_node, with_node, with_own_attr, Held, AllHold, Holds, IsNode, of_node_ref, of_option, annotations, given_annotations}
+use Rattle.std.proofs.Common.{◌≡◌}
+use Rattle.class_model.specs.Class.{Class}
 
 pub attrs-there : (o : Option (Class Text)) (bs : Bindings) → option_map (λ k. k.attrs) o ≡ Some bs → attrs_of o ≡ bs
 attrs-there None bs e = cc

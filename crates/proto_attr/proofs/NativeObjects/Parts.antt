@@ -1,17 +1,8 @@
 -- The parts of a property that keywords give.
-use Rattle.std.proofs.Common.{◌≡◌, ℕ, zero, suc, ◌+◌, ◌<◌, ◌≤◌, true, false, cond, eqb, List, [], ◌∷◌, length, get_or, drop, refl, arith}
-use Rattle.std.specs.Prelude.{Option, Some, None, slice_get}
-use Rattle.py_node.specs.BuiltIns.{fixed_none}
-use Rattle.py_node.specs.declared.entry.PropertyNative.{PropertyNative}
+use Rattle.proto_attr.proofs.Below.{ℕ, zero, suc, true, false, cond, eqb, List, [], length, get_or, drop, refl, arith, slice_get, fixed_none, PropertyNative, PyProperty, PyObjectRef, PyStrInterned, Held, Reading, bindings, spelled, AllHold, AreNodes, Holds, IsName, IsNode, of_binding, of_each, of_node_ref, of_option, of_optional, of_property, all-append, all-first, all-rest, bare, or_old, part_set, placed, with_part, with_parts}
+use Rattle.std.proofs.Common.{◌≡◌, ◌+◌, ◌<◌, ◌≤◌, ◌∷◌}
+use Rattle.std.specs.Prelude.{Option, Some, None}
 use Rattle.py_node.specs.declared.entry.PropertyNative.TheVariants as property
-use Rattle.py_node.specs.declared.payload.PyProperty.{PyProperty}
-use Rattle.py_node.specs.declared.refs.PyObjectRef.{PyObjectRef}
-use Rattle.py_node.specs.declared.refs.PyStrInterned.{PyStrInterned}
-use Rattle.class_world.specs.Held.{Held}
-use Rattle.class_world.specs.Reading.{Reading, bindings, spelled}
-use Rattle.class_world.specs.Sound.{AllHold, AreNodes, Holds, IsName, IsNode, of_binding, of_each, of_node_ref, of_option, of_optional, of_property}
-use Rattle.class_world.proofs.Claims.{all-append, all-first, all-rest}
-use Rattle.proto_attr.specs.NativeObjects.Descriptors.{bare, or_old, part_set, placed, with_part, with_parts}
 
 abbrev Bound : Type 0
 Bound = List (PyStrInterned × PyObjectRef)

@@ -1,20 +1,7 @@
 -- What setters take, and how they go on.
-use Rattle.std.proofs.Common.{◌≡◌, ℕ, true, false, cond, List, [], ◌∷◌, length, Option, Some, None, refl, ap, sym}
-use Rattle.std.specs.Prelude.{option_map, is_some}
-use Rattle.py_node.specs.declared.entry.Property.{Property}
+use Rattle.proto_attr.proofs.Below.{ℕ, true, false, cond, List, [], length, Option, Some, None, refl, ap, sym, option_map, is_some, Property, Cause, ImmutableType, PyObjectRef, class_at as class_numbered, is_heap_at, refused_attr, Bindings, PlainWorld, Said, Ends, fault, with_one, with_two, class_written, on_heap, setter_say, there_or, with_class_and_given, with_one_or_two}
+use Rattle.std.proofs.Common.{◌≡◌, ◌∷◌}
 use Rattle.py_node.specs.declared.entry.Property.TheVariants as property
-use Rattle.py_node.specs.declared.raised.Cause.{Cause}
-use Rattle.py_node.specs.declared.raised.Cause.TheVariants.{ImmutableType}
-use Rattle.py_node.specs.declared.refs.PyObjectRef.{PyObjectRef}
-use Rattle.class_model.specs.Class.{class_at as class_numbered}
-use Rattle.class_model.specs.Slot.{is_heap_at}
-use Rattle.class_table.specs.Refused.{refused_attr}
-use Rattle.plain_machine.specs.Plain.{Bindings, PlainWorld, Said, Ends}
-use Rattle.plain_machine.specs.Row.{fault}
-use Rattle.plain_machine.specs.Takes.{with_one, with_two}
-use Rattle.proto_attr.specs.NativeObjects.Setters.{class_written, on_heap, setter_say}
-use Rattle.row_kit.specs.TakeClasses.{there_or}
-use Rattle.proto_attr.specs.NativeObjects.Takes.{with_class_and_given, with_one_or_two}
 
 -- the object with a value, or alone
 pub two-given : (u : PlainWorld) (args : List PyObjectRef) (kw : Bindings) (go : PyObjectRef → Option PyObjectRef → Said) → length args ≡ 2 → with_one_or_two u args kw go ≡ with_two u args kw (λ o a. go o (Some a))

@@ -1,8 +1,6 @@
 -- Items of lists of names.
-use Rattle.std.proofs.Common.{ℕ, ◌<◌, List, length, slice_index_or}
-use Rattle.py_node.specs.declared.refs.PyStrInterned.{PyStrInterned}
-use Rattle.class_world.specs.Held.{Held}
-use Rattle.class_world.specs.Sound.{IsName, AreNames, Holds}
+use Rattle.proto_attr.proofs.Below.{ℕ, List, length, slice_index_or, PyStrInterned, Held, IsName, AreNames, Holds}
+use Rattle.std.proofs.Common.{◌<◌}
 
 pub name_holds : (w : Held) (xs : List PyStrInterned) (i : ℕ) (d : PyStrInterned) → i < length xs → Holds w (AreNames xs) → Holds w (IsName (slice_index_or xs i d))
 unfolding Holds

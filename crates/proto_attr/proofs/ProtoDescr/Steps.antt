@@ -1,24 +1,9 @@
 -- Steps that follow from what was read.
-use Rattle.std.proofs.Common.{◌≡◌, [], ◌∷◌, ◌++◌, refl, sym, subst}
-use Rattle.std.specs.Prelude.{Result, Option}
-use Rattle.py_node.specs.declared.raised.Raised.{Raised as Fault}
-use Rattle.py_node.specs.declared.task.Answer.{Answer}
-use Rattle.py_node.specs.declared.task.DescriptorTask.{DescriptorTask}
-use Rattle.py_node.specs.declared.task.Step.{Step}
-use Rattle.py_node.specs.declared.task.Step.TheVariants.{Ask, End}
-use Rattle.py_node.specs.declared.task.DescriptorTask.TheVariants.{DescrGet}
+use Rattle.proto_attr.proofs.Below.{[], refl, sym, subst, Result, Raised as Fault, Answer, DescriptorTask, Step, Ask, End, DescrGet, PySetterValue, DescrSet, slot_at, PyObjectRef, PlainWorld, Answered, Said, Asks, Ends, World, Reading, Reads, plain, descriptor_job, ended_of, setter_value, Steps, descriptor_say, class_method_by, descr_set_by, descriptor_stands, Begins, Starts, Resumes, StepsAs, EndsSo, passed, closed, Pass, AfterGet, Done}
+use Rattle.std.proofs.Common.{◌≡◌, ◌∷◌, ◌++◌}
+use Rattle.std.specs.Prelude.{Option}
 use Rattle.py_node.specs.declared.task.DescriptorTask.TheVariants as descriptor
-use Rattle.py_node.specs.declared.task.PySetterValue.{PySetterValue}
-use Rattle.py_node.specs.declared.entry.SlotId.TheVariants.{DescrSet}
-use Rattle.plain_machine.specs.World.{slot_at}
-use Rattle.py_node.specs.declared.refs.PyObjectRef.{PyObjectRef}
-use Rattle.plain_machine.specs.Plain.{PlainWorld, Answered, Said, Asks, Ends}
-use Rattle.class_world.specs.declared.world.World.{World}
-use Rattle.class_world.specs.Reading.{Reading, Reads, plain, descriptor_job, ended_of, setter_value}
-use Rattle.class_world.specs.Rows.{Steps}
-use Rattle.proto_attr.specs.ProtoDescr.Say.{descriptor_say, class_method_by, descr_set_by}
-use Rattle.proto_attr.specs.ProtoDescr.Rows.{descriptor_stands, Begins, Starts, Resumes, StepsAs, EndsAs, EndsSo, passed, closed}
-use Rattle.proto_attr.specs.declared.proto_descr.DescriptorKept.TheVariants.{Pass, AfterGet, Done}
+use Rattle.proto_attr.specs.ProtoDescr.Rows.{EndsAs}
 
 -- a row that is said to end ends
 ends-so : (t : Reading) (task : DescriptorTask) (said : Said) (r : Result Answer Fault) (new : World) → EndsSo said r (plain t new) → Steps descriptor_say (descriptor_stands t) t (descriptor_job t task) [] said (End r) new

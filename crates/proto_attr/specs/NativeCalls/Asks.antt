@@ -1,30 +1,9 @@
 -- What the contracts of natives say that may ask a task.
-use Rattle.std.specs.Prelude.{List, [], ◌∷◌, Result, Ok, Err, Option, Some, None}
-use Rattle.py_node.specs.declared.refs.PyObjectRef.{PyObjectRef}
-use Rattle.py_node.specs.declared.raised.Raised.{Raised as Fault}
-use Rattle.py_node.specs.declared.known.Known.TheVariants.{Get}
-use Rattle.py_node.specs.Known.{known_text}
+use Rattle.proto_attr.specs.Below.{List, [], Result, Ok, Err, Option, Some, None, PyObjectRef, Raised as Fault, Get, known_text, NativeEntry, GetterOf, NewOf, NewWrapper, OfDescriptor, OfSuper, OfWrapper, IsAbstract, GetSetSet, ClassGet, Answer, Value, Task, Step, Ask, End, PlainWorld, PlainTask, Bindings, DoGetAttr, ToAttribute, ToNative, Answered, Made, ReadObjects, Said, Asks, Ends, ref, value, none, Pending, fresh, World, Reading, task_of, Group, Follows, Claim, IsClass, IsNode, IsOf}
+use Rattle.std.specs.Prelude.{◌∷◌}
 use Rattle.py_node.specs.declared.built_in.BuiltIn.TheVariants as built_in
-use Rattle.py_node.specs.declared.entry.NativeEntry.{NativeEntry}
-use Rattle.py_node.specs.declared.entry.NativeEntry.TheVariants.{GetterOf, NewOf, NewWrapper, OfDescriptor, OfSuper, OfWrapper}
-use Rattle.py_node.specs.declared.entry.Detail.TheVariants.{IsAbstract}
-use Rattle.py_node.specs.declared.entry.DescriptorNative.TheVariants.{GetSetSet}
 use Rattle.py_node.specs.declared.entry.SuperNative.TheVariants as super
-use Rattle.py_node.specs.declared.entry.WrapperNative.TheVariants.{ClassGet}
-use Rattle.py_node.specs.declared.task.Answer.{Answer}
-use Rattle.py_node.specs.declared.task.Answer.TheVariants.{Value}
-use Rattle.py_node.specs.declared.task.Task.{Task}
-use Rattle.py_node.specs.declared.task.Step.{Step}
-use Rattle.py_node.specs.declared.task.Step.TheVariants.{Ask, End}
-use Rattle.plain_machine.specs.Plain.{PlainWorld, PlainTask, Bindings, DoGetAttr, ToAttribute, ToNative, Answered, Made, ReadObjects, Said, Asks, Ends}
-use Rattle.plain_machine.specs.World.{ref}
-use Rattle.plain_machine.specs.Row.{value, none}
-use Rattle.plain_machine.specs.Rows.{Pending, fresh}
-use Rattle.class_world.specs.declared.world.World.{World}
-use Rattle.class_world.specs.Reading.{Reading, task_of}
 use Rattle.class_world.specs.Rows as rows
-use Rattle.class_world.specs.Rows.{Group, Follows}
-use Rattle.class_world.specs.Sound.{Claim, IsClass, IsNode, IsOf}
 use Rattle.proto_attr.specs.declared.native_calls.NativeKept.{NativeKept}
 use Rattle.proto_attr.specs.declared.native_calls.NativeKept.TheVariants.{Pass, AfterGet, AfterDoc, AfterSet, Answering, Binding, Marked}
 use Rattle.proto_attr.specs.NativeCalls.Say.{asking_job_say, class_of_wrapper}

@@ -1,18 +1,9 @@
 -- What the natives say that read or set a part of a class method, a static method or a property by asking another object.
-use Rattle.std.specs.Prelude.{Bool, true, false, List, [], ◌∷◌, Option, Some, None, Err}
-use Rattle.py_node.specs.declared.refs.PyObjectRef.{PyObjectRef}
-use Rattle.py_node.specs.declared.raised.Cause.TheVariants.{ArgCount, CannotDelete}
-use Rattle.py_node.specs.declared.built_in.BuiltIn.{BuiltIn}
+use Rattle.proto_attr.specs.Below.{Bool, true, false, List, [], Option, Some, None, Err, PyObjectRef, ArgCount, CannotDelete, BuiltIn, Detail, Known, known_text, Datum, AClassMethod, AStaticMethod, AProperty, PlainWorld, Bindings, DoGetAttr, DoSetAttr, ToAttribute, Ended, Said, Ends, Row, end, pass, value, none, truth, fault, with_one, without_keywords, with_own}
+use Rattle.std.specs.Prelude.{◌∷◌}
 use Rattle.py_node.specs.declared.built_in.BuiltIn.TheVariants as built_in
-use Rattle.py_node.specs.declared.entry.Detail.{Detail}
 use Rattle.py_node.specs.declared.entry.Detail.TheVariants as detail
-use Rattle.py_node.specs.declared.known.Known.{Known}
 use Rattle.py_node.specs.declared.known.Known.TheVariants as known
-use Rattle.py_node.specs.Known.{known_text}
-use Rattle.plain_machine.specs.Plain.{Datum, AClassMethod, AStaticMethod, AProperty, PlainWorld, Bindings, DoGetAttr, DoSetAttr, ToAttribute, Ended, Said, Ends}
-use Rattle.plain_machine.specs.Row.{Row, end, pass, value, none, truth, fault}
-use Rattle.plain_machine.specs.Takes.{with_one, without_keywords}
-use Rattle.row_kit.specs.TakeClasses.{with_own}
 use Rattle.proto_attr.specs.declared.native_calls.way.Wrapper.{Wrapper}
 use Rattle.proto_attr.specs.declared.native_calls.way.Wrapper.TheVariants.{Class, Static}
 

@@ -1,26 +1,13 @@
 -- What the natives say that call an object, bind it, or make one, by name.
-use Rattle.std.specs.Prelude.{ℕ, Bool, true, false, cond, not, ◌&&◌, List, [], ◌∷◌, Option, Some, None, Ok, Err}
-use Rattle.py_node.specs.declared.refs.PyObjectRef.{PyObjectRef}
-use Rattle.py_node.specs.declared.raised.Cause.TheVariants.{ArgCount, NewSubtype, SelfType}
-use Rattle.py_node.specs.declared.built_in.BuiltIn.{BuiltIn}
-use Rattle.py_node.specs.declared.built_in.BuiltIn.TheVariants.{ClassMethod, StaticMethod}
+use Rattle.proto_attr.specs.Below.{ℕ, Bool, true, false, cond, not, List, [], Option, Some, None, Ok, Err, PyObjectRef, ArgCount, NewSubtype, SelfType, BuiltIn, ClassMethod, StaticMethod, NativeEntry, OfCallable, OfDescriptor, OfProperty, OfWrapper, OfSuper, GetterOf, SetterOf, NewOf, NewWrapper, is_same_native, known_text, is_sub, Datum, AFunction, AMethodDescriptor, AGetSet, AClassMethod, AStaticMethod, AMember, AProperty, ASuper, PlainWorld, Bindings, DoGetAttr, DoSetAttr, DoSuperGet, DoSuperInit, DoNew, PlainTask, ToAttribute, ToDescriptor, ToCall, ToNative, AsValue, Ended, Made, ReadObjects, Said, Asks, Ends, datum_at, with_node, next_node, class_object, class_number, Row, start, build, pass, end, value, none, fault, elsewhere, on_done, with_one, with_two, with_text, without_keywords, named_end, with_heir, call_native}
+use Rattle.std.specs.Prelude.{◌&&◌, ◌∷◌}
 use Rattle.py_node.specs.declared.entry.CallableNative.TheVariants as callable
 use Rattle.py_node.specs.declared.entry.DescriptorNative.TheVariants as descriptor
 use Rattle.py_node.specs.declared.entry.Detail.TheVariants as detail
 use Rattle.py_node.specs.declared.entry.PropertyNative.TheVariants as property
 use Rattle.py_node.specs.declared.entry.SuperNative.TheVariants as super
 use Rattle.py_node.specs.declared.entry.WrapperNative.TheVariants as wrapper
-use Rattle.py_node.specs.declared.entry.NativeEntry.{NativeEntry}
-use Rattle.py_node.specs.declared.entry.NativeEntry.TheVariants.{OfCallable, OfDescriptor, OfProperty, OfWrapper, OfSuper, GetterOf, SetterOf, NewOf, NewWrapper}
-use Rattle.py_node.specs.Natives.{is_same_native}
 use Rattle.py_node.specs.declared.known.Known.TheVariants as known
-use Rattle.py_node.specs.Known.{known_text}
-use Rattle.class_model.specs.Class.{is_sub}
-use Rattle.plain_machine.specs.Plain.{Datum, AFunction, AMethodDescriptor, AGetSet, AClassMethod, AStaticMethod, AMember, AProperty, ASuper, PlainWorld, Bindings, DoGetAttr, DoSetAttr, DoSuperGet, DoSuperInit, DoNew, PlainTask, ToAttribute, ToDescriptor, ToCall, ToNative, AsValue, Ended, Made, ReadObjects, Said, Asks, Ends}
-use Rattle.plain_machine.specs.World.{datum_at, with_node, next_node}
-use Rattle.plain_machine.specs.Objects.{class_object, class_number}
-use Rattle.plain_machine.specs.Row.{Row, start, build, pass, end, value, none, fault, elsewhere, on_done}
-use Rattle.plain_machine.specs.Takes.{with_one, with_two, with_text, without_keywords, named_end}
 use Rattle.proto_attr.specs.declared.native_calls.way.Kind.{Kind}
 use Rattle.proto_attr.specs.declared.native_calls.way.Kind.TheVariants as kind
 use Rattle.proto_attr.specs.declared.native_calls.way.Setting.{Setting}
@@ -30,8 +17,6 @@ use Rattle.proto_attr.specs.declared.native_calls.way.Wrapper.TheVariants.{Class
 use Rattle.proto_attr.specs.declared.native_calls.way.Way.{Way}
 use Rattle.proto_attr.specs.declared.native_calls.way.Way.TheVariants.{Binds, Sets, Deletes, Wraps, Makes, Calls, Looks, Starts, Reads, Marked, Marks}
 use Rattle.proto_attr.specs.NativeCalls.Parts.{mark_by_name, or_not_abstract, part_of_wrapped, reads_wrapped, with_get}
-use Rattle.row_kit.specs.TakeClasses.{with_heir}
-use Rattle.row_kit.specs.Called.{call_native}
 use Rattle.proto_attr.specs.ProtoDescr.Say.{class_of_option, function_get, native_get, getset_get, getset_set, class_for, class_method_get, class_method_by, static_method_get, start_with}
 use Rattle.proto_attr.specs.ProtoDescr.Members.{member_get, member_set}
 use Rattle.proto_attr.specs.ProtoDescr.Properties.{property_get, property_set}

@@ -1,14 +1,7 @@
 -- Definitions of native methods, and what they are as objects.
-use Rattle.std.specs.Prelude.{ℕ, Bool, cond, ◌||◌, ◌==◌, Option, None, option_map, string_bytes}
-use Rattle.std.specs.Int.RustNames.{bit_and}
-use Rattle.py_node.specs.declared.built_in.BuiltIn.{BuiltIn}
-use Rattle.py_node.specs.declared.built_in.BuiltIn.TheVariants.{BuiltinFunctionOrMethod, MethodDescriptor}
-use Rattle.py_node.specs.declared.entry.NativeEntry.{NativeEntry}
-use Rattle.py_node.specs.declared.refs.PyObjectRef.{PyObjectRef}
-use Rattle.py_node.specs.Tree.{Text}
-use Rattle.py_node.specs.BuiltIns.{place_of}
-use Rattle.plain_machine.specs.Plain.{Datum, ANativeFunction, ABuiltinMethod, AMethodDescriptor, PlainWorld}
-use Rattle.plain_machine.specs.World.{with_node, next_node, with_own_attr}
+use Rattle.proto_attr.specs.Below.{ℕ, Bool, cond, Option, None, option_map, string_bytes, bit_and, BuiltIn, BuiltinFunctionOrMethod, NativeEntry, PyObjectRef, Text, place_of, Datum, ANativeFunction, ABuiltinMethod, AMethodDescriptor, PlainWorld, with_node, next_node, with_own_attr}
+use Rattle.std.specs.Prelude.{◌||◌, ◌==◌}
+use Rattle.py_node.specs.declared.built_in.BuiltIn.TheVariants.{MethodDescriptor}
 use Rattle.proto_attr.specs.declared.native_defs.def.PyMethodDef.{PyMethodDef}
 
 -- the definition of a native method, with texts as bytes and flags as bits

@@ -1,10 +1,5 @@
 -- Definitions of members, and what they are as objects.
-use Rattle.std.specs.Prelude.{ℕ, Option, None, option_map, string_bytes}
-use Rattle.py_node.specs.declared.payload.MemberKind.{MemberKind}
-use Rattle.py_node.specs.declared.payload.MemberGetter.{MemberGetter}
-use Rattle.py_node.specs.declared.payload.MemberSetter.{MemberSetter}
-use Rattle.py_node.specs.Tree.{Text}
-use Rattle.plain_machine.specs.Plain.{Datum, AMember}
+use Rattle.proto_attr.specs.Below.{ℕ, Option, None, option_map, string_bytes, MemberKind, MemberGetter, MemberSetter, Text, Datum, AMember}
 use Rattle.proto_attr.specs.declared.native_defs.member.PyMemberDef.{PyMemberDef}
 
 -- the definition of a member, with texts as bytes

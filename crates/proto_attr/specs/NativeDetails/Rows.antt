@@ -1,23 +1,9 @@
 -- What the contracts say of the natives that tell a part of a property or of a member.
-use Rattle.std.specs.Prelude.{List, [], ◌∷◌, Result}
-use Rattle.py_node.specs.declared.raised.Raised.{Raised as Fault}
+use Rattle.proto_attr.specs.Below.{List, [], Result, Raised as Fault, GetterOf, Answer, Task, Step, PlainTask, PlainWorld, Bindings, ToNative, Answered, ReadObjects, Said, ref, value, none, Pending, fresh, PyObjectRef, NativeEntry, World, Reading, task_of, Group, Follows, Claim, IsNode}
+use Rattle.std.specs.Prelude.{◌∷◌}
 use Rattle.py_node.specs.declared.built_in.BuiltIn.TheVariants as built_in
 use Rattle.py_node.specs.declared.entry.Detail.TheVariants as detail
-use Rattle.py_node.specs.declared.entry.NativeEntry.TheVariants.{GetterOf}
-use Rattle.py_node.specs.declared.task.Answer.{Answer}
-use Rattle.py_node.specs.declared.task.Task.{Task}
-use Rattle.py_node.specs.declared.task.Step.{Step}
-use Rattle.plain_machine.specs.Plain.{PlainTask, PlainWorld, Bindings, ToNative, Answered, ReadObjects, Said}
-use Rattle.plain_machine.specs.World.{ref}
-use Rattle.plain_machine.specs.Row.{value, none}
-use Rattle.plain_machine.specs.Rows.{Pending, fresh}
-use Rattle.py_node.specs.declared.refs.PyObjectRef.{PyObjectRef}
-use Rattle.py_node.specs.declared.entry.NativeEntry.{NativeEntry}
-use Rattle.class_world.specs.declared.world.World.{World}
-use Rattle.class_world.specs.Reading.{Reading, task_of}
 use Rattle.class_world.specs.Rows as rows
-use Rattle.class_world.specs.Rows.{Group, Follows}
-use Rattle.class_world.specs.Sound.{Claim, IsNode}
 use Rattle.proto_attr.specs.declared.native_details.DetailKept.{DetailKept}
 use Rattle.proto_attr.specs.declared.native_details.DetailKept.TheVariants.{AfterGetter, AfterSetter, AfterBoth, AfterClass}
 use Rattle.proto_attr.specs.NativeDetails.Say.{detail_job_say}

@@ -1,25 +1,9 @@
 -- What the natives say that tell a part of a property or of a member for which other objects are asked.
-use Rattle.std.specs.Prelude.{ℕ, Bool, true, false, cond, codes, List, [], ◌∷◌, ◌++◌, Option, Some, None, Result, Ok, Err}
-use Rattle.py_node.specs.declared.refs.PyObjectRef.{PyObjectRef}
-use Rattle.py_node.specs.declared.raised.Raised.{Raised as Fault}
-use Rattle.py_node.specs.declared.raised.Cause.TheVariants.{QualnameType}
+use Rattle.proto_attr.specs.Below.{ℕ, Bool, true, false, cond, codes, List, [], Option, Some, None, Result, Ok, Err, PyObjectRef, Raised as Fault, QualnameType, IsAbstract, Qualname, NativeEntry, GetterOf, known_text, Or, Text, class_object, with_datum, Datum, AText, AMember, AProperty, PlainWorld, Bindings, DoGetAttr, DoBinary, PlainTask, ToAttribute, ToOperator, ToNative, AsValue, Ended, ReadObjects, Said, Asks, Ends, Row, start, ask, end, value, none, truth, fault, elsewhere, is_attribute_error, on_value, read_objects, with_one, datum_at, in_length, text_made, argument, tested_first, with_read, with_own}
+use Rattle.std.specs.Prelude.{◌∷◌, ◌++◌}
 use Rattle.py_node.specs.declared.built_in.BuiltIn.TheVariants as built_in
-use Rattle.py_node.specs.declared.entry.Detail.TheVariants.{IsAbstract, Qualname}
-use Rattle.py_node.specs.declared.entry.NativeEntry.{NativeEntry}
-use Rattle.py_node.specs.declared.entry.NativeEntry.TheVariants.{GetterOf}
 use Rattle.py_node.specs.declared.known.Known.TheVariants as known
-use Rattle.py_node.specs.Known.{known_text}
-use Rattle.py_node.specs.declared.task.PyNumberBinaryOp.TheVariants.{Or}
-use Rattle.py_node.specs.Tree.{Text}
-use Rattle.plain_machine.specs.Objects.{class_object, with_datum}
-use Rattle.plain_machine.specs.Plain.{Datum, AText, AMember, AProperty, PlainWorld, Bindings, DoGetAttr, DoBinary, PlainTask, ToAttribute, ToOperator, ToNative, AsValue, Ended, ReadObjects, Said, Asks, Ends}
-use Rattle.plain_machine.specs.Row.{Row, start, ask, end, value, none, truth, fault, elsewhere, is_attribute_error, on_value, read_objects}
-use Rattle.plain_machine.specs.Takes.{with_one}
-use Rattle.plain_machine.specs.World.{datum_at}
-use Rattle.row_kit.specs.Say.{in_length, text_made}
-use Rattle.row_kit.specs.Asking.{argument, tested_first, with_read}
 use Rattle.proto_attr.specs.NativeObjects.Takes.{property_in}
-use Rattle.row_kit.specs.TakeClasses.{with_own}
 
 -- whether a native is one of these
 abbrev pub asks_for_details : NativeEntry → Bool

@@ -1,19 +1,7 @@
 -- What is listed of the attributes of classes.
-use Rattle.std.specs.Prelude.{ℕ, cond, [], Option, Some, None}
-use Rattle.py_node.specs.declared.refs.PyObjectRef.{PyObjectRef}
-use Rattle.py_node.specs.declared.raised.Cause.TheVariants.{NoAttribute}
+use Rattle.proto_attr.specs.Below.{ℕ, cond, [], Option, Some, None, PyObjectRef, NoAttribute, known_text, own_of, attrs_of, is_heap_at, ADict, PlainWorld, Said, Ends, is_text, with_node, next_node, with_own_attr, the_dict, Entries, value, fault, sized_made, keyed}
 use Rattle.py_node.specs.declared.known.Known.TheVariants as known
-use Rattle.py_node.specs.Known.{known_text}
-use Rattle.class_model.specs.Class.{class_at as class_numbered, own_of}
-use Rattle.class_model.specs.Collect.{attrs_of}
-use Rattle.class_model.specs.Slot.{is_heap_at}
-use Rattle.plain_machine.specs.Plain.{ADict, PlainWorld, Said, Ends}
-use Rattle.plain_machine.specs.World.{is_text, with_node, next_node, with_own_attr}
-use Rattle.plain_machine.specs.Known.{the_dict}
-use Rattle.plain_machine.specs.Dicts.{Entries}
-use Rattle.plain_machine.specs.Row.{value, fault}
-use Rattle.row_kit.specs.Say.{sized_made}
-use Rattle.row_kit.specs.ClassAttributes.{keyed}
+use Rattle.class_model.specs.Class.{class_at as class_numbered}
 
 abbrev pub dict_made : PlainWorld × Entries → Said
 dict_made s = sized_made s.0 the_dict (ADict s.1)

@@ -1,28 +1,11 @@
 -- The natives of descriptors and of `super` that ask no task.
-use Rattle.std.specs.Prelude.{ℕ, Bool, true, false, cond, eqb, length, nat_le, slice_get, List, [], ◌∷◌, ◌++◌, codes, Option, Some, None, option_map}
-use Rattle.py_node.specs.declared.refs.PyObjectRef.{PyObjectRef}
-use Rattle.py_node.specs.declared.payload.PyProperty.{PyProperty}
-use Rattle.py_node.specs.declared.raised.Cause.TheVariants.{ArgCount, SelfType, UnexpectedKeyword}
-use Rattle.py_node.specs.declared.entry.CallableNative.{CallableNative}
+use Rattle.proto_attr.specs.Below.{ℕ, Bool, true, false, cond, eqb, length, nat_le, slice_get, List, [], codes, Option, Some, None, option_map, PyObjectRef, PyProperty, ArgCount, SelfType, UnexpectedKeyword, CallableNative, DescriptorNative, PropertyNative, SuperNative, WrapperNative, fixed_none, Text, Datum, AProperty, AStaticMethod, AText, PlainWorld, Bindings, Said, Ends, class_at, datum_at, is_text, with_datum, name_at, value, none, fault, elsewhere, with_one, with_two, with_three, without_keywords, in_length, object_made, text_made, with_own}
+use Rattle.std.specs.Prelude.{◌∷◌, ◌++◌}
 use Rattle.py_node.specs.declared.entry.CallableNative.TheVariants as callable
-use Rattle.py_node.specs.declared.entry.DescriptorNative.{DescriptorNative}
 use Rattle.py_node.specs.declared.entry.DescriptorNative.TheVariants as descriptor
-use Rattle.py_node.specs.declared.entry.PropertyNative.{PropertyNative}
 use Rattle.py_node.specs.declared.entry.PropertyNative.TheVariants as property
-use Rattle.py_node.specs.declared.entry.SuperNative.{SuperNative}
 use Rattle.py_node.specs.declared.entry.SuperNative.TheVariants as super
-use Rattle.py_node.specs.declared.entry.WrapperNative.{WrapperNative}
 use Rattle.py_node.specs.declared.entry.WrapperNative.TheVariants as wrapper
-use Rattle.py_node.specs.BuiltIns.{fixed_none}
-use Rattle.py_node.specs.Tree.{Text}
-use Rattle.plain_machine.specs.Plain.{Datum, AProperty, AStaticMethod, AText, PlainWorld, Bindings, Said, Ends}
-use Rattle.plain_machine.specs.World.{class_at, datum_at, is_text}
-use Rattle.plain_machine.specs.Objects.{with_datum}
-use Rattle.plain_machine.specs.ClassText.{name_at}
-use Rattle.plain_machine.specs.Row.{value, none, fault, elsewhere}
-use Rattle.plain_machine.specs.Takes.{with_one, with_two, with_three, without_keywords}
-use Rattle.row_kit.specs.Say.{in_length, object_made, text_made}
-use Rattle.row_kit.specs.TakeClasses.{with_own}
 use Rattle.proto_attr.specs.NativeObjects.Takes.{method_in, member_in, property_in, static_in, super_in}
 
 -- texts of what a class has

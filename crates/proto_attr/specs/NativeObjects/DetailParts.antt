@@ -1,7 +1,6 @@
 -- The parts of objects as the code has them.
-use Rattle.std.specs.Prelude.{List, [], ◌∷◌}
-use Rattle.class_world.specs.Reading.{Reading, spelled}
-use Rattle.class_world.specs.Sound.{Claim, IsClass, IsName, of_node_ref, of_option}
+use Rattle.proto_attr.specs.Below.{List, [], Reading, spelled, Claim, IsClass, IsName, of_node_ref, of_option}
+use Rattle.std.specs.Prelude.{◌∷◌}
 use Rattle.proto_attr.specs.declared.native_objects.details.Part.{Part as Stored}
 use Rattle.proto_attr.specs.declared.native_objects.details.Part.TheVariants as part
 use Rattle.proto_attr.specs.NativeObjects.Details.{Part, NamePart, DottedPart, WholePart, ClassPart, ObjectPart, SignaturePart, LaterPart}

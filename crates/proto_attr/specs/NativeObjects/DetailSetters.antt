@@ -1,17 +1,9 @@
 -- What is set of the objects of the other built-in classes through setters, which ask no task.
-use Rattle.std.specs.Prelude.{List, Option, Some, None}
-use Rattle.py_node.specs.declared.refs.PyObjectRef.{PyObjectRef}
-use Rattle.py_node.specs.declared.payload.PyProperty.{PyProperty}
-use Rattle.py_node.specs.declared.built_in.BuiltIn.{BuiltIn}
+use Rattle.proto_attr.specs.Below.{List, Option, Some, None, PyObjectRef, PyProperty, BuiltIn, Detail, AProperty, PlainWorld, Bindings, Said, Ends, with_datum, value, none, elsewhere, with_own}
 use Rattle.py_node.specs.declared.built_in.BuiltIn.TheVariants as built_in
-use Rattle.py_node.specs.declared.entry.Detail.{Detail}
 use Rattle.py_node.specs.declared.entry.Detail.TheVariants as detail
-use Rattle.plain_machine.specs.Plain.{AProperty, PlainWorld, Bindings, Said, Ends}
-use Rattle.plain_machine.specs.Objects.{with_datum}
-use Rattle.plain_machine.specs.Row.{value, none, elsewhere}
 use Rattle.proto_attr.specs.NativeObjects.Setters.{with_given}
 use Rattle.proto_attr.specs.NativeObjects.Takes.{property_in, with_one_or_two}
-use Rattle.row_kit.specs.TakeClasses.{with_own}
 
 -- a property gets another text for readers, which may be any object
 abbrev pub with_doc : PlainWorld → PyObjectRef → PyProperty → PyObjectRef → Said

@@ -1,21 +1,8 @@
 -- What is read through getters of the objects of the other built-in classes, which ask no task.
-use Rattle.std.specs.Prelude.{ℕ, List, ◌++◌, codes, Option, Some, None, option_map}
-use Rattle.py_node.specs.declared.refs.PyObjectRef.{PyObjectRef}
-use Rattle.py_node.specs.declared.payload.PyProperty.{PyProperty}
-use Rattle.py_node.specs.declared.payload.PySlice.{PySlice}
-use Rattle.py_node.specs.declared.built_in.BuiltIn.{BuiltIn}
+use Rattle.proto_attr.specs.Below.{ℕ, List, codes, Option, Some, None, option_map, PyObjectRef, PyProperty, PySlice, BuiltIn, Detail, Text, Datum, AFunction, AMethod, ANativeFunction, ABuiltinMethod, AMethodDescriptor, AGetSet, AClassMethod, AStaticMethod, AMember, AProperty, ASuper, ASlice, PlainWorld, Bindings, Said, Ends, ref, name_at, whole_name_at, value, none, elsewhere, with_one, in_length, text_made, signature_of, with_own}
+use Rattle.std.specs.Prelude.{◌++◌}
 use Rattle.py_node.specs.declared.built_in.BuiltIn.TheVariants as built_in
-use Rattle.py_node.specs.declared.entry.Detail.{Detail}
 use Rattle.py_node.specs.declared.entry.Detail.TheVariants as detail
-use Rattle.py_node.specs.Tree.{Text}
-use Rattle.plain_machine.specs.Plain.{Datum, AFunction, AMethod, ANativeFunction, ABuiltinMethod, AMethodDescriptor, AGetSet, AClassMethod, AStaticMethod, AMember, AProperty, ASuper, ASlice, PlainWorld, Bindings, Said, Ends}
-use Rattle.plain_machine.specs.World.{ref}
-use Rattle.plain_machine.specs.ClassText.{name_at, whole_name_at}
-use Rattle.plain_machine.specs.Row.{value, none, elsewhere}
-use Rattle.plain_machine.specs.Takes.{with_one}
-use Rattle.row_kit.specs.Say.{in_length, text_made}
-use Rattle.row_kit.specs.OfSignatures.Signature.{signature_of}
-use Rattle.row_kit.specs.TakeClasses.{with_own}
 
 -- a part of what an object holds: a name, what the objects of a class have under a name, told with what the class is called or with its whole name, a class, an object that may be absent, the signature that a text for readers gives for a name, or what is told by another task
 pub data Part : Type 0 where

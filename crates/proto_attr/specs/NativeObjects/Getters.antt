@@ -1,28 +1,9 @@
 -- What is read of `object` and `type` through getters, which ask no task.
-use Rattle.std.specs.Prelude.{ℕ, pos, List, map, Option, Some, None, Ok, option_map}
-use Rattle.py_node.specs.declared.refs.PyObjectRef.{PyObjectRef}
-use Rattle.py_node.specs.declared.raised.Cause.TheVariants.{NoDict}
-use Rattle.py_node.specs.declared.entry.Property.{Property}
+use Rattle.proto_attr.specs.Below.{ℕ, pos, List, map, Option, Some, None, Ok, option_map, PyObjectRef, NoDict, Property, known_text, Text, bases_of, lin, base, flags_at, ATuple, PlainWorld, Bindings, Said, Ends, datum_at, ref, the_tuple, name_at, dict_of, class_number, type_object, value, none, fault, with_one, in_length, int_made, text_made, sized_made, with_lone_class, builtins, given, or_nothing}
 use Rattle.py_node.specs.declared.entry.Property.TheVariants as property
 use Rattle.py_node.specs.declared.known.Known.TheVariants as known
-use Rattle.py_node.specs.Known.{known_text}
-use Rattle.py_node.specs.Tree.{Text}
-use Rattle.class_model.specs.Class.{bases_of, lin}
-use Rattle.class_model.specs.Layout.{base}
-use Rattle.class_world.specs.Sound.{flags_at}
-use Rattle.plain_machine.specs.Plain.{ATuple, PlainWorld, Bindings, Said, Ends}
-use Rattle.plain_machine.specs.World.{datum_at, ref}
-use Rattle.plain_machine.specs.Known.{the_tuple}
-use Rattle.plain_machine.specs.ClassText.{name_at}
-use Rattle.plain_machine.specs.Dicts.{dict_of}
-use Rattle.plain_machine.specs.Objects.{class_number, type_object}
-use Rattle.plain_machine.specs.Row.{value, none, fault}
-use Rattle.plain_machine.specs.Takes.{with_one}
-use Rattle.row_kit.specs.Say.{in_length, int_made, text_made, sized_made}
 use Rattle.proto_attr.specs.NativeObjects.Attributes.{annotations, class_dict}
 use Rattle.proto_attr.specs.NativeObjects.Details.{or_none}
-use Rattle.row_kit.specs.TakeClasses.{with_lone_class}
-use Rattle.row_kit.specs.ClassNames.{builtins, given, or_nothing}
 
 -- what a class is given itself, or else a new text
 abbrev pub given_or : PlainWorld → Option PyObjectRef → Text → Said

@@ -1,14 +1,6 @@
 -- What makes the objects of built-in classes and asks no task.
-use Rattle.std.specs.Prelude.{List, [], None}
-use Rattle.py_node.specs.declared.refs.PyObjectRef.{PyObjectRef}
-use Rattle.py_node.specs.declared.built_in.BuiltIn.{BuiltIn}
+use Rattle.proto_attr.specs.Below.{List, [], None, PyObjectRef, BuiltIn, CannotCreate, ADict, AList, AProperty, ASuper, PlainWorld, Said, Ends, the_object, fault, elsewhere, object_made, with_heir}
 use Rattle.py_node.specs.declared.built_in.BuiltIn.TheVariants as built_in
-use Rattle.py_node.specs.declared.raised.Cause.TheVariants.{CannotCreate}
-use Rattle.plain_machine.specs.Plain.{ADict, AList, AProperty, ASuper, PlainWorld, Said, Ends}
-use Rattle.plain_machine.specs.Known.{the_object}
-use Rattle.plain_machine.specs.Row.{fault, elsewhere}
-use Rattle.row_kit.specs.Say.{object_made}
-use Rattle.row_kit.specs.TakeClasses.{with_heir}
 
 -- new objects are empty, and a new `super` is one of `object` that is bound to nothing. Those that ask for what they are made of are made elsewhere; other classes make none
 abbrev pub maker_say : PlainWorld → BuiltIn → List PyObjectRef → Said

@@ -1,26 +1,8 @@
 -- What is set of `object` and `type` through setters, which ask no task. A setter takes the object and the value, or the object alone where the attribute is taken out, and answers None.
-use Rattle.std.specs.Prelude.{ℕ, Bool, true, false, cond, List, map, Option, Some, None, option_map, option_and_then}
-use Rattle.py_node.specs.declared.refs.PyObjectRef.{PyObjectRef}
-use Rattle.py_node.specs.declared.raised.Cause.{Cause}
-use Rattle.py_node.specs.declared.raised.Cause.TheVariants.{BasesShape, CannotDelete, ClassDict, DictType, ImmutableType, NameType, NoAttribute, NoDict, NoSetter, NotAClass, NullInName}
-use Rattle.py_node.specs.declared.entry.Property.{Property}
+use Rattle.proto_attr.specs.Below.{ℕ, Bool, true, false, cond, List, map, Option, Some, None, option_map, option_and_then, PyObjectRef, Cause, BasesShape, CannotDelete, ClassDict, DictType, ImmutableType, NameType, NoAttribute, NoDict, NoSetter, NotAClass, NullInName, Property, known_text, Text, own_of, all_some, is_heap_at, refused_class, refused_rebase, Datum, ADict, ATuple, PlainWorld, Bindings, Said, Ends, class_at, datum_at, is_text, Change, SetOwn, SetBases, SetName, SetClass, SetDict, apply, dict_of, class_number, value, none, fault, has_null, text_of, there_or}
 use Rattle.py_node.specs.declared.entry.Property.TheVariants as property
 use Rattle.py_node.specs.declared.known.Known.TheVariants as known
-use Rattle.py_node.specs.Known.{known_text}
-use Rattle.py_node.specs.Tree.{Text}
-use Rattle.class_model.specs.Class.{class_at as class_numbered, own_of}
-use Rattle.class_model.specs.Order.{all_some}
-use Rattle.class_model.specs.Slot.{is_heap_at}
-use Rattle.class_table.specs.Rebase.{refused_class, refused_rebase}
-use Rattle.plain_machine.specs.Plain.{Datum, ADict, ATuple, PlainWorld, Bindings, Said, Ends}
-use Rattle.plain_machine.specs.World.{class_at, datum_at, is_text}
-use Rattle.plain_machine.specs.Change.{Change, SetOwn, SetBases, SetName, SetClass, SetDict, apply}
-use Rattle.plain_machine.specs.Dicts.{dict_of}
-use Rattle.plain_machine.specs.Objects.{class_number}
-use Rattle.plain_machine.specs.Row.{value, none, fault}
-use Rattle.row_kit.specs.Questions.{has_null}
-use Rattle.row_kit.specs.ClassNames.{text_of}
-use Rattle.row_kit.specs.TakeClasses.{there_or}
+use Rattle.class_model.specs.Class.{class_at as class_numbered}
 use Rattle.proto_attr.specs.NativeObjects.Takes.{with_class_and_given, with_one_or_two}
 
 -- the world is changed, and the setter answers None

@@ -1,13 +1,6 @@
 -- What the natives of objects, classes and descriptors take.
-use Rattle.std.specs.Prelude.{ℕ, List, [], ◌∷◌, Option, Some, None}
-use Rattle.py_node.specs.declared.refs.PyObjectRef.{PyObjectRef}
-use Rattle.py_node.specs.declared.payload.PyProperty.{PyProperty}
-use Rattle.py_node.specs.declared.raised.Cause.TheVariants.{ArgCount}
-use Rattle.py_node.specs.Tree.{Text}
-use Rattle.plain_machine.specs.Plain.{Datum, AMember, AMethodDescriptor, AProperty, AStaticMethod, ASuper, PlainWorld, Bindings, Said, Ends}
-use Rattle.plain_machine.specs.Row.{fault}
-use Rattle.plain_machine.specs.Takes.{without_keywords}
-use Rattle.row_kit.specs.TakeClasses.{with_class}
+use Rattle.proto_attr.specs.Below.{ℕ, List, [], Option, Some, None, PyObjectRef, PyProperty, ArgCount, Text, Datum, AMember, AMethodDescriptor, AProperty, AStaticMethod, ASuper, PlainWorld, Bindings, Said, Ends, fault, without_keywords, with_class}
+use Rattle.std.specs.Prelude.{◌∷◌}
 
 -- the object, and one argument or none
 abbrev pub with_one_or_two : PlainWorld → List PyObjectRef → Bindings → (PyObjectRef → Option PyObjectRef → Said) → Said

@@ -1,20 +1,9 @@
 -- What the descriptors of members read and set.
-use Rattle.std.specs.Prelude.{ℕ, Bool, true, false, cond, List, [], ◌∷◌, Option, Some, None}
-use Rattle.py_node.specs.declared.refs.PyObjectRef.{PyObjectRef}
-use Rattle.py_node.specs.declared.raised.Cause.TheVariants.{EmptyMember, MemberBool, MemberClass, ReadOnly}
-use Rattle.py_node.specs.declared.payload.MemberKind.{MemberKind}
+use Rattle.proto_attr.specs.Below.{ℕ, Bool, true, false, cond, List, [], Option, Some, None, PyObjectRef, EmptyMember, MemberBool, MemberClass, ReadOnly, MemberKind, MemberGetter, MemberSetter, place_at, Datum, AMember, PlainWorld, Ended, Said, Ends, value_at_place, with_value_at_place, the_bool, native_task, is_instance, pass, value, done, fault, truth}
+use Rattle.std.specs.Prelude.{◌∷◌}
 use Rattle.py_node.specs.declared.payload.MemberKind.TheVariants as kind
-use Rattle.py_node.specs.declared.payload.MemberGetter.{MemberGetter}
 use Rattle.py_node.specs.declared.payload.MemberGetter.TheVariants as getter
-use Rattle.py_node.specs.declared.payload.MemberSetter.{MemberSetter}
 use Rattle.py_node.specs.declared.payload.MemberSetter.TheVariants as setter
-use Rattle.class_model.specs.Layout.{place_at}
-use Rattle.plain_machine.specs.Plain.{Datum, AMember, PlainWorld, Ended, Said, Ends}
-use Rattle.plain_machine.specs.Members.{value_at_place, with_value_at_place}
-use Rattle.plain_machine.specs.Known.{the_bool}
-use Rattle.plain_machine.specs.Native.{native_task}
-use Rattle.plain_machine.specs.Objects.{is_instance}
-use Rattle.plain_machine.specs.Row.{pass, value, done, fault, truth}
 
 -- a native that sets an attribute of objects takes the object and the value, and the object alone where the attribute is taken out
 abbrev pub with_value : PyObjectRef → Option PyObjectRef → List PyObjectRef

@@ -1,11 +1,6 @@
 -- What properties read and set.
-use Rattle.std.specs.Prelude.{cond, eqb, List, [], ◌∷◌, Option, Some, None}
-use Rattle.py_node.specs.declared.refs.PyObjectRef.{PyObjectRef}
-use Rattle.py_node.specs.declared.payload.PyProperty.{PyProperty}
-use Rattle.py_node.specs.declared.raised.Cause.{Cause}
-use Rattle.py_node.specs.declared.raised.Cause.TheVariants.{NoDeleter, NoGetter, NoSetter}
-use Rattle.plain_machine.specs.Plain.{Datum, AProperty, PlainWorld, DoCall, ToCall, Said, Ends}
-use Rattle.plain_machine.specs.Row.{pass, value, none, done, fault}
+use Rattle.proto_attr.specs.Below.{cond, eqb, List, [], Option, Some, None, PyObjectRef, PyProperty, Cause, NoDeleter, NoGetter, NoSetter, Datum, AProperty, PlainWorld, DoCall, ToCall, Said, Ends, pass, value, none, done, fault}
+use Rattle.std.specs.Prelude.{◌∷◌}
 
 -- a part of a property is called with the object, where it is there
 abbrev pub call_part : PlainWorld → Option PyObjectRef → Cause → List PyObjectRef → Said

@@ -1,27 +1,9 @@
 -- What the contracts of the rows of descriptors say.
-use Rattle.std.specs.Prelude.{◌≡◌, ℕ, Bool, cond, List, [], ◌∷◌, Result, Ok, Err, Option, Some, None, option_map}
-use Rattle.py_node.specs.declared.raised.Raised.{Raised as Fault}
-use Rattle.py_node.specs.declared.refs.PyObjectRef.{PyObjectRef}
-use Rattle.py_node.specs.declared.refs.PyTypeRef.{PyTypeRef}
-use Rattle.py_node.specs.declared.payload.MethodDescriptor.{MethodDescriptor}
+use Rattle.proto_attr.specs.Below.{ℕ, Bool, cond, List, [], Result, Ok, Err, Option, Some, None, option_map, Raised as Fault, PyObjectRef, PyTypeRef, MethodDescriptor, Answer, DescriptorTask, Step, Ask, End, Datum, PlainWorld, DescriptorJob, DoDescrGet, DoDescrSet, DoSuperInit, DoSuperCheck, DoGeneric, ToAttribute, ReadObjects, Said, Asks, Ends, Pending, fresh, pass, value, is_text, ref, Text, known_text, PySuper, World, Reading, Reads, plain, descriptor_job, datum, task_of, ended_of, spelled, spelled_option, Group, Claim, IsClass, IsNode, of_payload}
+use Rattle.std.specs.Prelude.{◌≡◌, ◌∷◌}
 use Rattle.py_node.specs.declared.payload.Payload.TheVariants as payload
-use Rattle.py_node.specs.declared.task.Answer.{Answer}
-use Rattle.py_node.specs.declared.task.DescriptorTask.{DescriptorTask}
-use Rattle.py_node.specs.declared.task.Step.{Step}
-use Rattle.py_node.specs.declared.task.Step.TheVariants.{Ask, End}
-use Rattle.plain_machine.specs.Plain.{Datum, PlainWorld, DescriptorJob, DoDescrGet, DoDescrSet, DoSuperInit, DoSuperCheck, DoGeneric, ToAttribute, ReadObjects, Said, Asks, Ends}
-use Rattle.plain_machine.specs.Rows.{Pending, fresh}
-use Rattle.plain_machine.specs.Row.{pass, value}
-use Rattle.plain_machine.specs.World.{is_text, ref}
-use Rattle.py_node.specs.Tree.{Text}
 use Rattle.py_node.specs.declared.known.Known.TheVariants as known
-use Rattle.py_node.specs.Known.{known_text}
-use Rattle.py_node.specs.declared.payload.PySuper.{PySuper}
-use Rattle.class_world.specs.declared.world.World.{World}
-use Rattle.class_world.specs.Reading.{Reading, Reads, plain, descriptor_job, datum, task_of, ended_of, spelled, spelled_option}
 use Rattle.class_world.specs.Rows as rows
-use Rattle.class_world.specs.Rows.{Group}
-use Rattle.class_world.specs.Sound.{Claim, IsClass, IsNode, of_payload}
 use Rattle.proto_attr.specs.declared.proto_descr.DescriptorKept.{DescriptorKept}
 use Rattle.proto_attr.specs.declared.proto_descr.DescriptorKept.TheVariants.{Pass, AfterGet, Done, Binding, Starting, AfterClass}
 use Rattle.proto_attr.specs.declared.proto_descr.super_get.BoundSuper.{BoundSuper}

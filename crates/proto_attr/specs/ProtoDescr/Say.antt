@@ -1,27 +1,12 @@
 -- What the rows of descriptors say.
-use Rattle.std.specs.Prelude.{ℕ, Bool, cond, not, eqb, ◌&&◌, false, List, [], ◌∷◌, Option, Some, None, Ok, Err}
-use Rattle.py_node.specs.declared.refs.PyObjectRef.{PyObjectRef}
-use Rattle.py_node.specs.declared.raised.Cause.TheVariants.{NeedsType, NoGetter, NoSetter}
-use Rattle.py_node.specs.declared.entry.SlotId.TheVariants.{DescrGet, DescrSet}
-use Rattle.py_node.specs.declared.entry.SlotEntry.{SlotEntry}
-use Rattle.py_node.specs.declared.entry.SlotEntry.TheVariants.{Native, Wrapper}
-use Rattle.py_node.specs.declared.entry.NativeEntry.{NativeEntry}
-use Rattle.py_node.specs.declared.entry.NativeEntry.TheVariants.{OfCallable, OfDescriptor, OfProperty, OfWrapper, OfSuper}
+use Rattle.proto_attr.specs.Below.{ℕ, Bool, cond, not, eqb, false, List, [], Option, Some, None, Ok, Err, PyObjectRef, NeedsType, NoGetter, NoSetter, DescrGet, DescrSet, SlotEntry, Native, Wrapper, NativeEntry, OfCallable, OfDescriptor, OfProperty, OfWrapper, OfSuper, Text, known_text, Datum, AMethod, ABuiltinMethod, AMethodDescriptor, AGetSet, AClassMethod, AStaticMethod, PlainWorld, DescriptorJob, DoDescrGet, DoDescrSet, DoSuperGet, DoSuperInit, DoSuperCheck, DoSpecial, DoGetAttr, DoCall, ToAttribute, ToCall, AsValue, Ended, Answered, ReadObjects, Said, Asks, Ends, datum_at, slot_at, with_node, next_node, type_object, class_object, class_number, for_objects, for_classes, the_none_type, the_method, the_builtin_method, native_task, named_end, Row, start, pass, end, value, done, fault, none, on_value, on_done}
+use Rattle.std.specs.Prelude.{◌&&◌, ◌∷◌}
 use Rattle.py_node.specs.declared.entry.CallableNative.TheVariants as callable
 use Rattle.py_node.specs.declared.entry.DescriptorNative.TheVariants as descriptor
 use Rattle.py_node.specs.declared.entry.PropertyNative.TheVariants as property
 use Rattle.py_node.specs.declared.entry.SuperNative.TheVariants as super
 use Rattle.py_node.specs.declared.entry.WrapperNative.TheVariants as wrapper
-use Rattle.py_node.specs.Tree.{Text}
 use Rattle.py_node.specs.declared.known.Known.TheVariants as known
-use Rattle.py_node.specs.Known.{known_text}
-use Rattle.plain_machine.specs.Plain.{Datum, AMethod, ABuiltinMethod, AMethodDescriptor, AGetSet, AClassMethod, AStaticMethod, PlainWorld, DescriptorJob, DoDescrGet, DoDescrSet, DoSuperGet, DoSuperInit, DoSuperCheck, DoSpecial, DoGetAttr, DoCall, ToAttribute, ToCall, AsValue, Ended, Answered, ReadObjects, Said, Asks, Ends}
-use Rattle.plain_machine.specs.World.{datum_at, slot_at, with_node, next_node}
-use Rattle.plain_machine.specs.Objects.{type_object, class_object, class_number, for_objects, for_classes}
-use Rattle.plain_machine.specs.Known.{the_none_type, the_method, the_builtin_method}
-use Rattle.plain_machine.specs.Native.{native_task}
-use Rattle.plain_machine.specs.Takes.{named_end}
-use Rattle.plain_machine.specs.Row.{Row, start, pass, end, value, done, fault, none, on_value, on_done}
 use Rattle.proto_attr.specs.ProtoDescr.Members.{member_get, member_set, with_value}
 use Rattle.proto_attr.specs.ProtoDescr.Properties.{property_get, property_set}
 use Rattle.proto_attr.specs.ProtoDescr.Supers.{super_attribute, super_bound, super_check, super_get, super_init, super_started, told_start}

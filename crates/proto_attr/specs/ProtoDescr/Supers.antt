@@ -1,19 +1,7 @@
 -- What `super` looks up, what it is bound to, and how it is initialised.
-use Rattle.std.specs.Prelude.{ℕ, Bool, cond, eqb, not, ◌&&◌, is_some, List, [], ◌∷◌, Option, Some, None, option_and_then, Result, Ok, Err}
-use Rattle.py_node.specs.declared.refs.PyObjectRef.{PyObjectRef}
-use Rattle.py_node.specs.declared.raised.Raised.{Raised as Fault}
-use Rattle.py_node.specs.declared.raised.Cause.TheVariants.{ArgCount, NoArguments, NoBody, SelfType, SuperArg, SuperCheckFailed, SuperNoClass}
-use Rattle.py_node.specs.declared.entry.SlotId.TheVariants.{DescrGet}
-use Rattle.py_node.specs.Tree.{Text}
+use Rattle.proto_attr.specs.Below.{ℕ, Bool, cond, eqb, not, is_some, List, [], Option, Some, None, option_and_then, Result, Ok, Err, PyObjectRef, Raised as Fault, ArgCount, NoArguments, NoBody, SelfType, SuperArg, SuperCheckFailed, SuperNoClass, DescrGet, Text, known_text, along, is_sub, lin, Datum, AFunction, ASuper, PlainWorld, DoGeneric, DoGetAttr, DoDescrGet, DoSuperCheck, ToAttribute, ToDescriptor, AsStart, Ended, ReadObjects, Said, Asks, Ends, is_text, class_at, datum_at, in_last, slot_at, with_node, next_node, running, class_number, class_object, derives, with_datum, the_super, pass, value, none, done, fault}
+use Rattle.std.specs.Prelude.{◌&&◌, ◌∷◌}
 use Rattle.py_node.specs.declared.known.Known.TheVariants as known
-use Rattle.py_node.specs.Known.{known_text}
-use Rattle.class_model.specs.Class.{along, is_sub, lin}
-use Rattle.plain_machine.specs.Plain.{Datum, AFunction, ASuper, PlainWorld, DoGeneric, DoGetAttr, DoDescrGet, DoSuperCheck, ToAttribute, ToDescriptor, AsStart, Ended, ReadObjects, Said, Asks, Ends}
-use Rattle.plain_machine.specs.World.{is_text, class_at, datum_at, in_last, slot_at, with_node, next_node}
-use Rattle.plain_machine.specs.Running.{running}
-use Rattle.plain_machine.specs.Objects.{class_number, class_object, derives, with_datum}
-use Rattle.plain_machine.specs.Known.{the_super}
-use Rattle.plain_machine.specs.Row.{pass, value, none, done, fault}
 
 abbrev pub is_none : PyObjectRef → Bool
 is_none o = eqb o.0 none.0

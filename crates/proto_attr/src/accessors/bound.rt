@@ -1,12 +1,8 @@
 //! Natives of a class that are bound to an object.
 
-ghost use Rattle.std.specs.Prelude.{◌≡◌, IfOk, OnErr, OnOk};
-ghost use Rattle.py_node.specs.BuiltIns.{place_of};
+ghost use Rattle.proto_attr.specs.Below.{IfOk, OnErr, OnOk, place_of, Reading, Reads, plain, spelled, spelled_option, AllHold, Grows, Holding, Holds, IsClass, IsName, IsNode, of_name_ref, of_option, ABuiltinMethod, next_node, with_node};
+ghost use Rattle.std.specs.Prelude.{◌≡◌};
 ghost use Rattle.py_node.specs.declared.built_in.BuiltIn.TheVariants as built_in;
-ghost use Rattle.class_world.specs.Reading.{Reading, Reads, plain, spelled, spelled_option};
-ghost use Rattle.class_world.specs.Sound.{AllHold, Grows, Holding, Holds, IsClass, IsName, IsNode, of_name_ref, of_option};
-ghost use Rattle.plain_machine.specs.Plain.{ABuiltinMethod};
-ghost use Rattle.plain_machine.specs.World.{next_node, with_node};
 
 use crate::accessors::method::PyMethodDescriptor;
 use class_world::World;

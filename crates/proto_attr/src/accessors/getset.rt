@@ -1,10 +1,8 @@
 //! Attributes that natives read and set.
 
-ghost use Rattle.std.specs.Prelude.{◌≡◌, [], ◌∷◌, None, Some};
+ghost use Rattle.proto_attr.specs.Below.{[], None, Some, Reading, datum, spelled, IsClass, IsName, class_in, home_of, of_payload, AGetSet};
+ghost use Rattle.std.specs.Prelude.{◌≡◌, ◌∷◌};
 ghost use Rattle.py_node.specs.declared.built_in.BuiltIn.TheVariants as built_in;
-ghost use Rattle.class_world.specs.Reading.{Reading, datum, spelled};
-ghost use Rattle.class_world.specs.Sound.{IsClass, IsName, class_in, home_of, of_payload};
-ghost use Rattle.plain_machine.specs.Plain.{AGetSet};
 
 use py_node::{GetSet, NativeEntry, Payload, PyStrInterned, PyTypeRef};
 

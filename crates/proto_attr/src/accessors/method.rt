@@ -1,11 +1,9 @@
 //! Natives as methods of a class.
 
-ghost use Rattle.std.specs.Prelude.{◌≡◌, [], ◌∷◌, ◌++◌, None, IfOk};
+ghost use Rattle.proto_attr.specs.Below.{[], None, IfOk, Reading, Reads, datum, plain, spelled, spelled_option, AllHold, Grows, Holds, IsClass, IsName, class_in, home_of, of_name_ref, of_option, of_payload, AMethodDescriptor};
+ghost use Rattle.std.specs.Prelude.{◌≡◌, ◌∷◌, ◌++◌};
 ghost use Rattle.py_node.specs.declared.built_in.BuiltIn.TheVariants as built_in;
-ghost use Rattle.class_world.specs.Reading.{Reading, Reads, datum, plain, spelled, spelled_option};
-ghost use Rattle.class_world.specs.Sound.{AllHold, Grows, Holds, IsClass, IsName, class_in, home_of, of_name_ref, of_option, of_payload};
 ghost use Rattle.proto_attr.specs.NativeDefs.Definitions.{as_method, definition_of};
-ghost use Rattle.plain_machine.specs.Plain.{AMethodDescriptor};
 
 use crate::native_defs::PyMethodDef;
 use class_world::World;

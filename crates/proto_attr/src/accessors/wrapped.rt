@@ -1,12 +1,8 @@
 //! Class methods and static methods.
 
-ghost use Rattle.std.specs.Prelude.{◌≡◌, IfOk, OnErr, OnOk};
-ghost use Rattle.py_node.specs.BuiltIns.{place_of};
+ghost use Rattle.proto_attr.specs.Below.{IfOk, OnErr, OnOk, place_of, Reading, Reads, plain, Grows, Holding, Holds, IsNode, AClassMethod, AStaticMethod, next_node, with_node};
+ghost use Rattle.std.specs.Prelude.{◌≡◌};
 ghost use Rattle.py_node.specs.declared.built_in.BuiltIn.TheVariants as built_in;
-ghost use Rattle.class_world.specs.Reading.{Reading, Reads, plain};
-ghost use Rattle.class_world.specs.Sound.{Grows, Holding, Holds, IsNode};
-ghost use Rattle.plain_machine.specs.Plain.{AClassMethod, AStaticMethod};
-ghost use Rattle.plain_machine.specs.World.{next_node, with_node};
 
 use class_world::World;
 use py_node::{BuiltIn, OutOfMemory, Payload, PyObjectRef};

@@ -1,15 +1,8 @@
 //! What functions, natives and descriptors give as they are bound, by name.
 
-ghost use Rattle.std.specs.Prelude.{◌≡◌, Err, IfErr, IfOk, Option};
-ghost use Rattle.plain_machine.specs.Plain.{PlainWorld, Said, Ends};
-ghost use Rattle.plain_machine.specs.World.{datum_at};
-ghost use Rattle.py_node.specs.declared.refs.PyObjectRef.{PyObjectRef as Object};
+ghost use Rattle.proto_attr.specs.Below.{Err, IfErr, IfOk, Option, PlainWorld, Said, Ends, datum_at, PyObjectRef as Object, of_ended, of_step, Leaves, Held, Reading, bindings, plain, EndsAs, LeavesEnd, AllHold, AreNodes, Holds, IsNode, of_option, of_node_ref};
+ghost use Rattle.std.specs.Prelude.{◌≡◌};
 ghost use Rattle.proto_attr.specs.declared.native_calls.way.Way.TheVariants as Way;
-ghost use Rattle.class_world.specs.Claims.{of_ended, of_step, Leaves};
-ghost use Rattle.class_world.specs.Held.{Held};
-ghost use Rattle.class_world.specs.Reading.{Reading, bindings, plain};
-ghost use Rattle.class_world.specs.Rows.{EndsAs, LeavesEnd};
-ghost use Rattle.class_world.specs.Sound.{AllHold, AreNodes, Holds, IsNode, of_option, of_node_ref};
 ghost use Rattle.proto_attr.specs.ProtoDescr.Rows.{StepsAs, nothing_held};
 ghost use Rattle.proto_attr.specs.ProtoDescr.Say.{class_method_get};
 ghost use Rattle.proto_attr.specs.NativeCalls.Asks.{Does, Resumes, class_asked, of_native_kept};

@@ -1,10 +1,7 @@
 //! Calls by name.
 
-ghost use Rattle.std.specs.Prelude.{◌≡◌, ◌∷◌, IfOk, option_map};
-ghost use Rattle.plain_machine.specs.World.{datum_at};
-ghost use Rattle.class_world.specs.Claims.{of_args, of_task, Leaves};
-ghost use Rattle.class_world.specs.Reading.{Reading, bindings, plain, task_of};
-ghost use Rattle.class_world.specs.Sound.{AllHold, Holds, IsNode, of_option};
+ghost use Rattle.proto_attr.specs.Below.{IfOk, option_map, datum_at, of_args, of_task, Leaves, Reading, bindings, plain, task_of, AllHold, Holds, IsNode, of_option};
+ghost use Rattle.std.specs.Prelude.{◌≡◌, ◌∷◌};
 ghost use Rattle.proto_attr.specs.ProtoDescr.Rows.{StepsAs, nothing_held};
 ghost use Rattle.proto_attr.specs.NativeCalls.Say.{call_by_name, called_task, is_function};
 

@@ -1,9 +1,7 @@
 //! The making of objects by name.
 
-ghost use Rattle.std.specs.Prelude.{◌≡◌, IfOk};
-ghost use Rattle.class_world.specs.Claims.{of_args, Leaves};
-ghost use Rattle.class_world.specs.Reading.{Reading, bindings};
-ghost use Rattle.class_world.specs.Sound.{AllHold};
+ghost use Rattle.proto_attr.specs.Below.{IfOk, of_args, Leaves, Reading, bindings, AllHold};
+ghost use Rattle.std.specs.Prelude.{◌≡◌};
 ghost use Rattle.proto_attr.specs.ProtoDescr.Rows.{StepsAs, nothing_held};
 ghost use Rattle.proto_attr.specs.NativeCalls.Say.{new_by_name};
 

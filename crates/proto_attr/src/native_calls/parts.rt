@@ -1,9 +1,6 @@
 //! What members and properties give of an object, by name.
 
-ghost use Rattle.std.specs.Prelude.{IfOk};
-ghost use Rattle.class_world.specs.Claims.{Leaves};
-ghost use Rattle.class_world.specs.Reading.{bindings};
-ghost use Rattle.class_world.specs.Sound.{AreNodes, Holds};
+ghost use Rattle.proto_attr.specs.Below.{IfOk, Leaves, bindings, AreNodes, Holds};
 ghost use Rattle.proto_attr.specs.ProtoDescr.Rows.{StepsAs, nothing_held};
 ghost use Rattle.proto_attr.specs.NativeCalls.Say.{member_get_by_name, property_get_by_name};
 

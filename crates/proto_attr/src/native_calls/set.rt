@@ -1,9 +1,7 @@
 //! What is set in an object by name, or taken out there.
 
-ghost use Rattle.std.specs.Prelude.{◌≡◌, ◌∷◌, IfOk};
-ghost use Rattle.class_world.specs.Claims.{of_setter, Leaves};
-ghost use Rattle.class_world.specs.Reading.{bindings, setter_value};
-ghost use Rattle.class_world.specs.Sound.{AllHold, AreNodes, Holds, IsNode};
+ghost use Rattle.proto_attr.specs.Below.{IfOk, of_setter, Leaves, bindings, setter_value, AllHold, AreNodes, Holds, IsNode};
+ghost use Rattle.std.specs.Prelude.{◌≡◌, ◌∷◌};
 ghost use Rattle.proto_attr.specs.ProtoDescr.Rows.{StepsAs, nothing_held};
 ghost use Rattle.proto_attr.specs.NativeCalls.Say.{delete_so, kind_of, set_as, set_so};
 

@@ -1,10 +1,8 @@
 //! What `super` does by name.
 
-ghost use Rattle.std.specs.Prelude.{◌≡◌, IfOk};
+ghost use Rattle.proto_attr.specs.Below.{IfOk, of_ended, of_step, Leaves, bindings, AllHold, AreNodes, Holds};
+ghost use Rattle.std.specs.Prelude.{◌≡◌};
 ghost use Rattle.proto_attr.specs.declared.native_calls.way.Way.TheVariants as Way;
-ghost use Rattle.class_world.specs.Claims.{of_ended, of_step, Leaves};
-ghost use Rattle.class_world.specs.Reading.{bindings};
-ghost use Rattle.class_world.specs.Sound.{AllHold, AreNodes, Holds};
 ghost use Rattle.proto_attr.specs.ProtoDescr.Rows.{StepsAs, nothing_held};
 ghost use Rattle.proto_attr.specs.NativeCalls.Asks.{Does, Resumes, of_native_kept};
 ghost use Rattle.proto_attr.specs.NativeCalls.Say.{super_attribute_by_name, super_get_by_name, super_init_by_name, way_of};

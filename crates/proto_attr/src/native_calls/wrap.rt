@@ -1,14 +1,8 @@
 //! What makes class methods and static methods.
 
-ghost use Rattle.std.specs.Prelude.{◌≡◌, ℕ, Err, IfErr, IfOk, None};
-ghost use Rattle.plain_machine.specs.Plain.{Said, Ends};
+ghost use Rattle.proto_attr.specs.Below.{ℕ, Err, IfErr, IfOk, None, Said, Ends, holds_as, of_ended, of_step, Leaves, Reading, bindings, datum, plain, AllHold, AreNodes, Holds, IsClass, IsNode, IsOf, class_in, home_of, of_payload, Held, with_heir};
+ghost use Rattle.std.specs.Prelude.{◌≡◌};
 ghost use Rattle.proto_attr.specs.declared.native_calls.way.Way.TheVariants as Way;
-ghost use Rattle.plain_machine.specs.Sound.{holds_as};
-ghost use Rattle.class_world.specs.Claims.{of_ended, of_step, Leaves};
-ghost use Rattle.class_world.specs.Reading.{Reading, bindings, datum, plain};
-ghost use Rattle.class_world.specs.Sound.{AllHold, AreNodes, Holds, IsClass, IsNode, IsOf, class_in, home_of, of_payload};
-ghost use Rattle.class_world.specs.Held.{Held};
-ghost use Rattle.row_kit.specs.TakeClasses.{with_heir};
 ghost use Rattle.proto_attr.specs.NativeCalls.Asks.{Does, Resumes, of_native_kept};
 ghost use Rattle.proto_attr.specs.NativeCalls.Say.{class_of_wrapper, way_of, wrapper_new, wrapping};
 

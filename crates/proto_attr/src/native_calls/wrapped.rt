@@ -1,12 +1,7 @@
 //! What class methods and static methods have of what they wrap.
 
-ghost use Rattle.std.specs.Prelude.{◌≡◌, Err, IfErr, IfOk};
-ghost use Rattle.plain_machine.specs.Plain.{Said, Ends};
-ghost use Rattle.py_node.specs.declared.refs.PyObjectRef.{PyObjectRef as Object};
-ghost use Rattle.class_world.specs.Claims.{of_step};
-ghost use Rattle.class_world.specs.Reading.{Reading, bindings, plain};
-ghost use Rattle.class_world.specs.Sound.{AllHold, AreNodes, Holds, IsNode};
-ghost use Rattle.row_kit.specs.TakeClasses.{with_own};
+ghost use Rattle.proto_attr.specs.Below.{Err, IfErr, IfOk, Said, Ends, PyObjectRef as Object, of_step, Reading, bindings, plain, AllHold, AreNodes, Holds, IsNode, with_own};
+ghost use Rattle.std.specs.Prelude.{◌≡◌};
 ghost use Rattle.proto_attr.specs.ProtoDescr.Rows.{StepsAs, nothing_held};
 ghost use Rattle.proto_attr.specs.NativeCalls.Parts.{asked_name, part_of_wrapped, wrapped_in};
 

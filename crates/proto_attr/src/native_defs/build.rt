@@ -1,11 +1,8 @@
 //! The objects of definitions, made in a world. Where memory runs out, only texts may have got numbers.
 
-ghost use Rattle.std.specs.Prelude.{◌≡◌, None, Some, IfOk, OnOk, OnErr};
-ghost use Rattle.py_node.specs.BuiltIns.{place_of};
+ghost use Rattle.proto_attr.specs.Below.{None, Some, IfOk, OnOk, OnErr, place_of, with_node, next_node, Reading, Reads, plain, IsNode, IsClass, Holding, Holds, Grows};
+ghost use Rattle.std.specs.Prelude.{◌≡◌};
 ghost use Rattle.py_node.specs.declared.built_in.BuiltIn.TheVariants as built_in;
-ghost use Rattle.plain_machine.specs.World.{with_node, next_node};
-ghost use Rattle.class_world.specs.Reading.{Reading, Reads, plain};
-ghost use Rattle.class_world.specs.Sound.{IsNode, IsClass, Holding, Holds, Grows};
 ghost use Rattle.proto_attr.specs.NativeDefs.Definitions.{definition_of, as_function, as_method, as_bound_method};
 
 use crate::native_defs::def::PyMethodDef;

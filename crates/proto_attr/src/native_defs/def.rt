@@ -1,7 +1,7 @@
 //! The definition of a native method.
 
-ghost use Rattle.std.specs.Prelude.{◌≡◌, IfOk};
-ghost use Rattle.std.specs.Option.{option_copied};
+ghost use Rattle.proto_attr.specs.Below.{IfOk, option_copied};
+ghost use Rattle.std.specs.Prelude.{◌≡◌};
 ghost use Rattle.proto_attr.specs.NativeDefs.Definitions.{definition, definition_of};
 
 use py_node::{NativeEntry, OutOfMemory, PyMethodFlags};

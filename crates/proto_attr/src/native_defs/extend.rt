@@ -1,12 +1,7 @@
 //! Own attributes of a class that are made of definitions.
 
-ghost use Rattle.std.specs.Prelude.{◌≡◌, fold, IfOk, OnOk, OnErr, Some};
-ghost use Rattle.py_node.specs.BuiltIns.{place_of};
-ghost use Rattle.py_node.specs.declared.raised.Cause.{Cause as RefusalCause};
-ghost use Rattle.class_table.specs.Refused.{refusal, refused_attr, NamesNoClass};
-ghost use Rattle.plain_machine.specs.World.{with_node, next_node};
-ghost use Rattle.class_world.specs.Reading.{Reading, Reads, plain};
-ghost use Rattle.class_world.specs.Sound.{IsNode, IsClass, Holds, Grows};
+ghost use Rattle.proto_attr.specs.Below.{fold, IfOk, OnOk, OnErr, Some, place_of, Cause as RefusalCause, refusal, refused_attr, NamesNoClass, with_node, next_node, Reading, Reads, plain, IsNode, IsClass, Holds, Grows};
+ghost use Rattle.std.specs.Prelude.{◌≡◌};
 ghost use Rattle.proto_attr.specs.NativeDefs.Definitions.{definition_of, as_attribute, attribute_home, with_method};
 
 use crate::native_defs::def::PyMethodDef;

@@ -1,13 +1,8 @@
 //! The definition of a member, and the object that is made of it.
 
-ghost use Rattle.std.specs.Prelude.{◌≡◌, IfOk, OnOk, OnErr};
-ghost use Rattle.std.specs.Option.{option_copied};
-ghost use Rattle.py_node.specs.BuiltIns.{place_of};
+ghost use Rattle.proto_attr.specs.Below.{IfOk, OnOk, OnErr, option_copied, place_of, read_offset, set_offset, with_node, next_node, Reading, Reads, datum, plain, spelled, spelled_option, IsNode, IsClass, IsName, IsOffset, Holding, Holds, AllHold, Grows, home_of, class_in, of_payload, of_option, of_name_ref};
+ghost use Rattle.std.specs.Prelude.{◌≡◌};
 ghost use Rattle.py_node.specs.declared.built_in.BuiltIn.TheVariants as built_in;
-ghost use Rattle.plain_machine.specs.Sound.{read_offset, set_offset};
-ghost use Rattle.plain_machine.specs.World.{with_node, next_node};
-ghost use Rattle.class_world.specs.Reading.{Reading, Reads, datum, plain, spelled, spelled_option};
-ghost use Rattle.class_world.specs.Sound.{IsNode, IsClass, IsName, IsOffset, Holding, Holds, AllHold, Grows, home_of, class_in, of_payload, of_option, of_name_ref};
 ghost use Rattle.proto_attr.specs.NativeDefs.Members.{as_member, member, member_of};
 
 use class_world::World;

@@ -1,9 +1,8 @@
 //! What a definition is as an object: its texts get numbers in a world, which stays as it was otherwise.
 
-ghost use Rattle.std.specs.Prelude.{◌≡◌, None, Some, IfOk};
+ghost use Rattle.proto_attr.specs.Below.{None, Some, IfOk, Reading, Reads, datum, plain, spelled, spelled_option, IsNode, IsClass, IsName, Holds, AllHold, Grows, home_of, class_in, of_payload, of_option, of_name_ref, of_node_ref};
+ghost use Rattle.std.specs.Prelude.{◌≡◌};
 ghost use Rattle.py_node.specs.declared.built_in.BuiltIn.TheVariants as built_in;
-ghost use Rattle.class_world.specs.Reading.{Reading, Reads, datum, plain, spelled, spelled_option};
-ghost use Rattle.class_world.specs.Sound.{IsNode, IsClass, IsName, Holds, AllHold, Grows, home_of, class_in, of_payload, of_option, of_name_ref, of_node_ref};
 ghost use Rattle.proto_attr.specs.NativeDefs.Definitions.{definition_of, as_function, as_method, as_bound_method, as_attribute, attribute_home, is_method};
 
 use crate::native_defs::def::PyMethodDef;

@@ -1,19 +1,10 @@
 //! Whether a property is abstract: its getter and its setter are asked.
 
-ghost use Rattle.std.specs.Prelude.{◌≡◌, [], Err, IfErr, IfOk, IfSome};
-ghost use Rattle.py_node.specs.declared.payload.PyProperty.{PyProperty as Parts};
-ghost use Rattle.py_node.specs.declared.refs.PyObjectRef.{PyObjectRef as Object};
-ghost use Rattle.row_kit.specs.Asking.{argument};
+ghost use Rattle.proto_attr.specs.Below.{[], Err, IfErr, IfOk, IfSome, PyProperty as Parts, PyObjectRef as Object, argument, with_own, known_text, DoGetAttr, Ends, Said, ToAttribute, of_ended, of_step, of_task, Reading, Reads, bindings, ended_of, plain, task_of, AllHold, AreNodes, Holds, IsNode, datum_at};
+ghost use Rattle.std.specs.Prelude.{◌≡◌};
 ghost use Rattle.proto_attr.specs.NativeObjects.Takes.{property_in};
-ghost use Rattle.row_kit.specs.TakeClasses.{with_own};
 ghost use Rattle.py_node.specs.declared.known.Known.TheVariants as known;
 ghost use Rattle.py_node.specs.declared.task.OperatorTask.TheVariants as operator;
-ghost use Rattle.py_node.specs.Known.{known_text};
-ghost use Rattle.plain_machine.specs.Plain.{DoGetAttr, Ends, Said, ToAttribute};
-ghost use Rattle.class_world.specs.Claims.{of_ended, of_step, of_task};
-ghost use Rattle.class_world.specs.Reading.{Reading, Reads, bindings, ended_of, plain, task_of};
-ghost use Rattle.class_world.specs.Sound.{AllHold, AreNodes, Holds, IsNode};
-ghost use Rattle.plain_machine.specs.World.{datum_at};
 ghost use Rattle.py_node.specs.declared.built_in.BuiltIn.TheVariants as built_in;
 ghost use Rattle.py_node.specs.declared.entry.NativeEntry.TheVariants as entry;
 ghost use Rattle.proto_attr.specs.NativeDetails.Rows.{Does, Resumes, of_detail_kept};

@@ -1,19 +1,10 @@
 //! The qualified name of a member: it is kept, or its class is asked for its own.
 
-ghost use Rattle.std.specs.Prelude.{◌≡◌, ◌++◌, ℕ, codes, Option, Ok, Err, IfErr, IfOk, string_bytes};
-ghost use Rattle.py_node.specs.declared.refs.PyObjectRef.{PyObjectRef as Object};
+ghost use Rattle.proto_attr.specs.Below.{ℕ, codes, Option, Ok, Err, IfErr, IfOk, string_bytes, PyObjectRef as Object, of_ended, Leaves, Reading, Reads, bindings, plain, spelled, spelled_option, EndsAs, LeavesEnd, AllHold, AreNodes, Holds, IsName, IsNode, of_member, Said, Ends, Text, with_own, datum_at, in_length};
+ghost use Rattle.std.specs.Prelude.{◌≡◌, ◌++◌};
 ghost use Rattle.py_node.specs.declared.built_in.BuiltIn.TheVariants as built_in;
 ghost use Rattle.py_node.specs.declared.entry.NativeEntry.TheVariants as entry;
-ghost use Rattle.class_world.specs.Claims.{of_ended, Leaves};
-ghost use Rattle.class_world.specs.Reading.{Reading, Reads, bindings, plain, spelled, spelled_option};
-ghost use Rattle.class_world.specs.Rows.{EndsAs, LeavesEnd};
-ghost use Rattle.class_world.specs.Sound.{AllHold, AreNodes, Holds, IsName, IsNode, of_member};
-ghost use Rattle.plain_machine.specs.Plain.{Said, Ends};
-ghost use Rattle.py_node.specs.Tree.{Text};
-ghost use Rattle.row_kit.specs.TakeClasses.{with_own};
-ghost use Rattle.plain_machine.specs.World.{datum_at};
 ghost use Rattle.proto_attr.specs.NativeDetails.Rows.{Does, Resumes, of_detail_kept};
-ghost use Rattle.row_kit.specs.Say.{in_length};
 ghost use Rattle.proto_attr.specs.NativeDetails.Say.{dotted, kept_name, member_name, named_by};
 
 use crate::native_details::DetailKept;

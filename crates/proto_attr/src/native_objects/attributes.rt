@@ -1,13 +1,7 @@
 //! What is listed of the attributes of classes.
 
-ghost use Rattle.std.specs.Prelude.{◌≡◌, [], Some, IfOk, OnOk};
-ghost use Rattle.py_node.specs.declared.known.Known.TheVariants.{Annotations};
-ghost use Rattle.plain_machine.specs.Known.{the_dict};
-ghost use Rattle.plain_machine.specs.Plain.{ADict};
-ghost use Rattle.plain_machine.specs.World.{with_node, next_node, with_own_attr};
-ghost use Rattle.class_world.specs.Reading.{Reading, Reads, plain, spelled};
-ghost use Rattle.class_world.specs.Rows.{EndsAs, LeavesEnd};
-ghost use Rattle.class_world.specs.Sound.{Grows, IsClass, IsName, IsNode, Holds};
+ghost use Rattle.proto_attr.specs.Below.{[], Some, IfOk, OnOk, Annotations, the_dict, ADict, with_node, next_node, with_own_attr, Reading, Reads, plain, spelled, EndsAs, LeavesEnd, Grows, IsClass, IsName, IsNode, Holds};
+ghost use Rattle.std.specs.Prelude.{◌≡◌};
 ghost use Rattle.proto_attr.specs.NativeObjects.Attributes.{annotations, class_dict};
 
 use class_world::World;

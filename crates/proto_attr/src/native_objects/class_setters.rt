@@ -1,19 +1,9 @@
 //! The names, the module and the annotations that are set of a class.
 
-ghost use Rattle.std.specs.Prelude.{◌≡◌, Err, Some, IfErr, IfOk, IfSome, is_some, true};
-ghost use Rattle.py_node.specs.declared.refs.PyObjectRef.{PyObjectRef as Object};
+ghost use Rattle.proto_attr.specs.Below.{Err, Some, IfErr, IfOk, IfSome, is_some, true, PyObjectRef as Object, known_text, is_heap_at, SetOwn, Said, Ends, datum_at, Reading, plain, EndsAs, LeavesEnd, IsClass, IsNode, Holds, has_null, text_of};
+ghost use Rattle.std.specs.Prelude.{◌≡◌};
 ghost use Rattle.py_node.specs.declared.entry.Property.TheVariants as property;
-ghost use Rattle.py_node.specs.Known.{known_text};
 ghost use Rattle.class_model.specs.Class.{class_at as class_numbered};
-ghost use Rattle.class_model.specs.Slot.{is_heap_at};
-ghost use Rattle.plain_machine.specs.Change.{SetOwn};
-ghost use Rattle.plain_machine.specs.Plain.{Said, Ends};
-ghost use Rattle.plain_machine.specs.World.{datum_at};
-ghost use Rattle.class_world.specs.Reading.{Reading, plain};
-ghost use Rattle.class_world.specs.Rows.{EndsAs, LeavesEnd};
-ghost use Rattle.class_world.specs.Sound.{IsClass, IsNode, Holds};
-ghost use Rattle.row_kit.specs.Questions.{has_null};
-ghost use Rattle.row_kit.specs.ClassNames.{text_of};
 ghost use Rattle.proto_attr.specs.NativeObjects.Setters.{changes, class_written, on_heap, renamed, set_name, set_qualname, take_own, with_heap_value};
 
 use class_table::ClassFault;

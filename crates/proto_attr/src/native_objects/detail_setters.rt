@@ -1,10 +1,6 @@
 //! What is set through setters of the objects of the built-in classes other than `object` and `type`.
 
-ghost use Rattle.std.specs.Prelude.{IfOk};
-ghost use Rattle.class_world.specs.Claims.{of_ended};
-ghost use Rattle.class_world.specs.Reading.{bindings};
-ghost use Rattle.class_world.specs.Rows.{EndsAs, LeavesEnd};
-ghost use Rattle.class_world.specs.Sound.{AllHold, AreNodes, Grows, Holds};
+ghost use Rattle.proto_attr.specs.Below.{IfOk, of_ended, bindings, EndsAs, LeavesEnd, AllHold, AreNodes, Grows, Holds};
 ghost use Rattle.proto_attr.specs.NativeObjects.DetailSetters.{set_of_property, setter_of_say};
 
 use crate::native_objects::take::{one_or_two, own_property};

@@ -1,14 +1,7 @@
 //! What is read of `object` and `type` through getters.
 
-ghost use Rattle.std.specs.Prelude.{◌≡◌, IfOk, option_map};
-ghost use Rattle.plain_machine.specs.Plain.{PlainWorld, Ends};
-ghost use Rattle.plain_machine.specs.World.{ref};
-ghost use Rattle.class_model.specs.Layout.{base};
-ghost use Rattle.class_world.specs.Claims.{of_ended};
-ghost use Rattle.class_world.specs.Reading.{Reading, bindings, ended_of, plain};
-ghost use Rattle.class_world.specs.Held.{Held};
-ghost use Rattle.class_world.specs.Rows.{EndsAs, LeavesEnd};
-ghost use Rattle.class_world.specs.Sound.{AllHold, AreNodes, IsClass, IsNode, Holds, of_node_ref, of_option};
+ghost use Rattle.proto_attr.specs.Below.{IfOk, option_map, PlainWorld, Ends, ref, base, of_ended, Reading, bindings, ended_of, plain, Held, EndsAs, LeavesEnd, AllHold, AreNodes, IsClass, IsNode, Holds, of_node_ref, of_option};
+ghost use Rattle.std.specs.Prelude.{◌≡◌};
 ghost use Rattle.proto_attr.specs.NativeObjects.Details.{or_none};
 ghost use Rattle.proto_attr.specs.NativeObjects.Getters.{class_read, dict_or_fault, getter_say};
 

@@ -1,9 +1,7 @@
 //! What makes the objects of built-in classes.
 
-ghost use Rattle.std.specs.Prelude.{◌≡◌, Ok, Err, IfOk};
-ghost use Rattle.py_node.specs.Faults.{raised};
-ghost use Rattle.class_world.specs.Rows.{EndsAs, LeavesEnd};
-ghost use Rattle.class_world.specs.Sound.{AreNodes, Holds};
+ghost use Rattle.proto_attr.specs.Below.{Ok, Err, IfOk, raised, EndsAs, LeavesEnd, AreNodes, Holds};
+ghost use Rattle.std.specs.Prelude.{◌≡◌};
 ghost use Rattle.proto_attr.specs.NativeObjects.Makers.{maker_say};
 
 use class_world::World;

@@ -1,14 +1,8 @@
 //! Other bases for a class.
 
-ghost use Rattle.std.specs.Prelude.{◌≡◌, ◌≤◌, option_map, IfOk, IfSome};
+ghost use Rattle.proto_attr.specs.Below.{option_map, IfOk, IfSome, numbers, all_some, class_number, datum_at, Reading, plain, EndsAs, LeavesEnd, AllHold, AreNodes, IsClass, IsNode, Holds, of_class_ref, of_each};
+ghost use Rattle.std.specs.Prelude.{◌≡◌, ◌≤◌};
 ghost use Rattle.py_node.specs.declared.entry.Property.TheVariants as property;
-ghost use Rattle.class_table.specs.Keys.{numbers};
-ghost use Rattle.class_model.specs.Order.{all_some};
-ghost use Rattle.plain_machine.specs.Objects.{class_number};
-ghost use Rattle.plain_machine.specs.World.{datum_at};
-ghost use Rattle.class_world.specs.Reading.{Reading, plain};
-ghost use Rattle.class_world.specs.Rows.{EndsAs, LeavesEnd};
-ghost use Rattle.class_world.specs.Sound.{AllHold, AreNodes, IsClass, IsNode, Holds, of_class_ref, of_each};
 ghost use Rattle.proto_attr.specs.NativeObjects.Setters.{all_classes, class_written, classes_in, rebased};
 
 use crate::native_objects::class_setters::heap_value;

@@ -1,15 +1,7 @@
 //! What is set of `object` and `type` through setters.
 
-ghost use Rattle.std.specs.Prelude.{◌≡◌, true, is_some, IfOk, IfSome};
-ghost use Rattle.py_node.specs.declared.built_in.BuiltIn.TheVariants.{Dict};
-ghost use Rattle.plain_machine.specs.Dicts.{dict_of};
-ghost use Rattle.plain_machine.specs.Objects.{class_number};
-ghost use Rattle.plain_machine.specs.Plain.{PlainWorld, Ends};
-ghost use Rattle.plain_machine.specs.World.{datum_at};
-ghost use Rattle.class_world.specs.Claims.{of_ended};
-ghost use Rattle.class_world.specs.Reading.{Reading, bindings, ended_of, plain};
-ghost use Rattle.class_world.specs.Rows.{EndsAs, LeavesEnd};
-ghost use Rattle.class_world.specs.Sound.{AllHold, AreNodes, Grows, Holding, IsClass, IsNode, Holds};
+ghost use Rattle.proto_attr.specs.Below.{true, is_some, IfOk, IfSome, Dict, dict_of, class_number, PlainWorld, Ends, datum_at, of_ended, Reading, bindings, ended_of, plain, EndsAs, LeavesEnd, AllHold, AreNodes, Grows, Holding, IsClass, IsNode, Holds};
+ghost use Rattle.std.specs.Prelude.{◌≡◌};
 ghost use Rattle.proto_attr.specs.NativeObjects.Setters.{class_written, is_dict, redicted, reclassed, set_class, set_class_dict, set_dict, setter_say};
 
 use crate::native_objects::class_setters::{set_annotations, set_module, set_name, set_qualname};

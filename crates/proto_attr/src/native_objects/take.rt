@@ -1,16 +1,9 @@
 //! What a native takes: one or two arguments, a class and what is given for it, or an object of a kind.
 
-ghost use Rattle.std.specs.Prelude.{◌≡◌, ◌∷◌, ℕ, Option, Err, IfErr, IfOk, IfSome, option_map};
-ghost use Rattle.py_node.specs.Tree.{Text};
-ghost use Rattle.py_node.specs.declared.payload.PyProperty.{PyProperty as Parts};
-ghost use Rattle.py_node.specs.declared.built_in.BuiltIn.TheVariants.{Property, StaticMethod};
-ghost use Rattle.plain_machine.specs.Plain.{PlainWorld, Said, Ends};
-ghost use Rattle.py_node.specs.declared.refs.PyObjectRef.{PyObjectRef as Object};
-ghost use Rattle.class_world.specs.Held.{Held};
-ghost use Rattle.class_world.specs.Reading.{Reading, bindings, plain, spelled};
-ghost use Rattle.class_world.specs.Sound.{AllHold, AreNodes, Holding, Holds, IsClass, IsName, IsNode, of_option, of_property, of_start};
+ghost use Rattle.proto_attr.specs.Below.{ℕ, Option, Err, IfErr, IfOk, IfSome, option_map, Text, PyProperty as Parts, StaticMethod, PlainWorld, Said, Ends, PyObjectRef as Object, Held, Reading, bindings, plain, spelled, AllHold, AreNodes, Holding, Holds, IsClass, IsName, IsNode, of_option, of_property, of_start, with_own};
+ghost use Rattle.std.specs.Prelude.{◌≡◌, ◌∷◌};
+ghost use Rattle.py_node.specs.declared.built_in.BuiltIn.TheVariants.{Property};
 ghost use Rattle.proto_attr.specs.NativeObjects.Takes.{with_class_and_given, with_one_or_two, method_in, member_in, property_in, static_in, super_in};
-ghost use Rattle.row_kit.specs.TakeClasses.{with_own};
 
 use class_world::World;
 use class_world::takes::{one, two};

@@ -1,15 +1,8 @@
 //! What descriptors give.
 #![tactic(auto, unfolding(crate::specs::ProtoDescr::Say::descriptor_say, py_node::specs::BuiltIns::place_of))]
 
-ghost use Rattle.std.specs.Prelude.{◌≡◌, ◌∷◌, ◌++◌, Option, Some, IfOk};
-ghost use Rattle.py_node.specs.Faults.{raised};
-ghost use Rattle.class_world.specs.Sound.{AllHold, Grows, Holds, IsNode, of_option, of_node_ref};
-ghost use Rattle.class_world.specs.Held.{Held};
-ghost use Rattle.class_world.specs.Claims.{of_descriptor_task, of_ended, Leaves};
-ghost use Rattle.class_world.specs.Reading.{Reading, plain, ended_of};
-ghost use Rattle.plain_machine.specs.Plain.{PlainWorld, Ends};
-ghost use Rattle.plain_machine.specs.World.{datum_at};
-ghost use Rattle.py_node.specs.declared.refs.PyObjectRef.{PyObjectRef as Object};
+ghost use Rattle.proto_attr.specs.Below.{Option, Some, IfOk, raised, AllHold, Grows, Holds, IsNode, of_option, of_node_ref, Held, of_descriptor_task, of_ended, Leaves, Reading, plain, ended_of, PlainWorld, Ends, datum_at, PyObjectRef as Object};
+ghost use Rattle.std.specs.Prelude.{◌≡◌, ◌∷◌, ◌++◌};
 ghost use Rattle.py_node.specs.declared.task.DescriptorTask.TheVariants as descriptor;
 ghost use Rattle.proto_attr.specs.ProtoDescr.Say.{descr_get_by, function_get, is_object_none, class_of_option, or_none, is_none_type, object_get, class_get, static_get, native_get};
 ghost use Rattle.proto_attr.specs.ProtoDescr.Rows.{Begins, Starts, EndsAs, number, described, native_of, bound_as, of_descriptor_kept};

@@ -1,14 +1,9 @@
 //! What the descriptors of members read and set.
 #![tactic(auto, unfolding(crate::specs::ProtoDescr::Say::descriptor_say, py_node::specs::BuiltIns::place_of))]
 
-ghost use Rattle.std.specs.Prelude.{◌≡◌, ◌∷◌, [], true, IfOk};
-ghost use Rattle.plain_machine.specs.Objects.{is_instance};
-ghost use Rattle.plain_machine.specs.Sound.{set_offset};
-ghost use Rattle.plain_machine.specs.World.{datum_at};
+ghost use Rattle.proto_attr.specs.Below.{[], true, IfOk, is_instance, set_offset, datum_at, of_descriptor_task, of_ended, of_setter, Leaves, Reading, ended_of, plain, setter_value, AllHold, IsClass, IsNode, IsOffset, of_option, of_node_ref};
+ghost use Rattle.std.specs.Prelude.{◌≡◌, ◌∷◌};
 ghost use Rattle.py_node.specs.declared.task.DescriptorTask.TheVariants as descriptor;
-ghost use Rattle.class_world.specs.Claims.{of_descriptor_task, of_ended, of_setter, Leaves};
-ghost use Rattle.class_world.specs.Reading.{Reading, ended_of, plain, setter_value};
-ghost use Rattle.class_world.specs.Sound.{AllHold, IsClass, IsNode, IsOffset, of_option, of_node_ref};
 ghost use Rattle.proto_attr.specs.ProtoDescr.Members.{member_get, member_set, or_empty, read_member, set_member, takes};
 ghost use Rattle.proto_attr.specs.ProtoDescr.Rows.{Starts, StepsAs, nothing_held, of_descriptor_kept};
 

@@ -1,12 +1,9 @@
 //! What properties read and set.
 #![tactic(auto, unfolding(crate::specs::ProtoDescr::Say::descriptor_say))]
 
-ghost use Rattle.std.specs.Prelude.{◌∷◌, IfOk};
-ghost use Rattle.plain_machine.specs.World.{datum_at};
+ghost use Rattle.proto_attr.specs.Below.{IfOk, datum_at, of_descriptor_task, of_setter, of_step, Leaves, setter_value, AllHold, AreNodes, Holds, IsNode, of_option, of_node_ref};
+ghost use Rattle.std.specs.Prelude.{◌∷◌};
 ghost use Rattle.py_node.specs.declared.task.DescriptorTask.TheVariants as descriptor;
-ghost use Rattle.class_world.specs.Claims.{of_descriptor_task, of_setter, of_step, Leaves};
-ghost use Rattle.class_world.specs.Reading.{setter_value};
-ghost use Rattle.class_world.specs.Sound.{AllHold, AreNodes, Holds, IsNode, of_option, of_node_ref};
 ghost use Rattle.proto_attr.specs.ProtoDescr.Properties.{call_part, property_get, property_set};
 ghost use Rattle.proto_attr.specs.ProtoDescr.Rows.{Starts, StepsAs, nothing_held, of_descriptor_kept};
 

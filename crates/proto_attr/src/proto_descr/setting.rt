@@ -1,15 +1,9 @@
 //! What descriptors set, or take out.
 #![tactic(auto, unfolding(crate::specs::ProtoDescr::Say::descriptor_say))]
 
-ghost use Rattle.std.specs.Prelude.{◌≡◌, ◌∷◌, [], IfOk};
-ghost use Rattle.plain_machine.specs.Native.{native_task};
-ghost use Rattle.plain_machine.specs.World.{datum_at, slot_at};
-ghost use Rattle.py_node.specs.declared.entry.SlotId.TheVariants.{DescrSet};
+ghost use Rattle.proto_attr.specs.Below.{[], IfOk, native_task, datum_at, slot_at, DescrSet, of_descriptor_task, of_setter, of_step, of_task, Leaves, Held, Reading, setter_value, task_of, AllHold, AreNodes, Holds, IsNode};
+ghost use Rattle.std.specs.Prelude.{◌≡◌, ◌∷◌};
 ghost use Rattle.py_node.specs.declared.task.DescriptorTask.TheVariants as descriptor;
-ghost use Rattle.class_world.specs.Claims.{of_descriptor_task, of_setter, of_step, of_task, Leaves};
-ghost use Rattle.class_world.specs.Held.{Held};
-ghost use Rattle.class_world.specs.Reading.{Reading, setter_value, task_of};
-ghost use Rattle.class_world.specs.Sound.{AllHold, AreNodes, Holds, IsNode};
 ghost use Rattle.proto_attr.specs.ProtoDescr.Members.{with_value};
 ghost use Rattle.proto_attr.specs.ProtoDescr.Say.{descr_set_by, getset_set, set_by_method};
 ghost use Rattle.proto_attr.specs.ProtoDescr.Rows.{Begins, StepsAs, closed, nothing_held, of_descriptor_kept};

@@ -1,15 +1,9 @@
 //! What `super` looks up.
 #![tactic(auto, unfolding(crate::specs::ProtoDescr::Say::descriptor_say))]
 
-ghost use Rattle.std.specs.Prelude.{◌≡◌, ◌∷◌, ℕ, [], List, Option};
-ghost use Rattle.std.specs.List.{All};
-ghost use Rattle.class_model.specs.Class.{along};
-ghost use Rattle.class_table.specs.Keys.{numbers};
-ghost use Rattle.plain_machine.specs.World.{datum_at, is_text};
+ghost use Rattle.proto_attr.specs.Below.{ℕ, [], List, Option, All, along, numbers, datum_at, is_text, of_descriptor_task, of_step, Reading, Reads, plain, spelled, AllHold, Holds, IsClass, IsName, IsNode, of_option, of_node_ref};
+ghost use Rattle.std.specs.Prelude.{◌≡◌, ◌∷◌};
 ghost use Rattle.py_node.specs.declared.task.DescriptorTask.TheVariants as descriptor;
-ghost use Rattle.class_world.specs.Claims.{of_descriptor_task, of_step};
-ghost use Rattle.class_world.specs.Reading.{Reading, Reads, plain, spelled};
-ghost use Rattle.class_world.specs.Sound.{AllHold, Holds, IsClass, IsName, IsNode, of_option, of_node_ref};
 ghost use Rattle.proto_attr.specs.ProtoDescr.Supers.{after, found_after, looked_up, super_attribute, unless_start};
 ghost use Rattle.proto_attr.specs.ProtoDescr.Rows.{Begins, Starts, bound_attribute, of_bound, of_descriptor_kept};
 

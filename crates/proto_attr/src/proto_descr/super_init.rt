@@ -1,13 +1,10 @@
 //! How `super` is initialised.
 #![tactic(auto, using(class_world::proofs::Items::item_holds), unfolding(crate::specs::ProtoDescr::Say::descriptor_say))]
 
-ghost use Rattle.std.specs.Prelude.{◌≡◌, [], Err, IfOk, Ok};
-ghost use Rattle.plain_machine.specs.Running.{running};
+ghost use Rattle.proto_attr.specs.Below.{[], Err, IfOk, Ok, running, of_descriptor_task, of_ended, Leaves, Reading, plain, AllHold, AreNodes, Grows, Holds, IsNode, of_payload};
+ghost use Rattle.std.specs.Prelude.{◌≡◌};
 ghost use Rattle.py_node.specs.declared.payload.Payload.TheVariants as payload;
 ghost use Rattle.py_node.specs.declared.task.DescriptorTask.TheVariants as descriptor;
-ghost use Rattle.class_world.specs.Claims.{of_descriptor_task, of_ended, Leaves};
-ghost use Rattle.class_world.specs.Reading.{Reading, plain};
-ghost use Rattle.class_world.specs.Sound.{AllHold, AreNodes, Grows, Holds, IsNode, of_payload};
 ghost use Rattle.proto_attr.specs.ProtoDescr.Supers.{init_with, parts_of_body, super_parts, with_super};
 ghost use Rattle.proto_attr.specs.ProtoDescr.Rows.{Begins, EndsAs, Initialises, Resumes, bound_to, of_descriptor_kept, of_parts, parts_of};
 

@@ -1,12 +1,9 @@
 //! Where `super` starts to look, and what it is bound to.
 #![tactic(auto, unfolding(crate::specs::ProtoDescr::Say::descriptor_say, py_node::specs::BuiltIns::place_of))]
 
-ghost use Rattle.std.specs.Prelude.{◌≡◌, ◌∷◌, [], Option, IfOk};
-ghost use Rattle.plain_machine.specs.World.{class_at, datum_at, ref};
+ghost use Rattle.proto_attr.specs.Below.{[], Option, IfOk, class_at, datum_at, ref, of_descriptor_task, of_ended, of_step, Leaves, Reading, ended_of, plain, AllHold, Grows, IsClass, IsNode, of_option, of_node_ref};
+ghost use Rattle.std.specs.Prelude.{◌≡◌, ◌∷◌};
 ghost use Rattle.py_node.specs.declared.task.DescriptorTask.TheVariants as descriptor;
-ghost use Rattle.class_world.specs.Claims.{of_descriptor_task, of_ended, of_step, Leaves};
-ghost use Rattle.class_world.specs.Reading.{Reading, ended_of, plain};
-ghost use Rattle.class_world.specs.Sound.{AllHold, Grows, IsClass, IsNode, of_option, of_node_ref};
 ghost use Rattle.proto_attr.specs.ProtoDescr.Supers.{check_class, super_bound, super_get};
 ghost use Rattle.proto_attr.specs.ProtoDescr.Rows.{Begins, EndsAs, Resumes, Starts, of_descriptor_kept, of_parts, super_asked};
 

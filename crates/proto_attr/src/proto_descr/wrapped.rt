@@ -1,16 +1,9 @@
 //! What the descriptors of getters give, and what class methods and static methods do.
 #![tactic(auto, unfolding(crate::specs::ProtoDescr::Say::descriptor_say, py_node::specs::BuiltIns::place_of))]
 
-ghost use Rattle.std.specs.Prelude.{◌≡◌, ◌∷◌, ◌++◌, [], IfOk};
-ghost use Rattle.py_node.specs.Known.{known_text};
+ghost use Rattle.proto_attr.specs.Below.{[], IfOk, known_text, PyObjectRef as Object, DoGetAttr, PlainWorld, ToAttribute, Ends, value, datum_at, of_descriptor_task, of_ended, of_step, of_task, Leaves, Reading, Reads, plain, ended_of, task_of, AllHold, Holds, IsNode, of_option, of_node_ref};
+ghost use Rattle.std.specs.Prelude.{◌≡◌, ◌∷◌, ◌++◌};
 ghost use Rattle.py_node.specs.declared.task.DescriptorTask.TheVariants as descriptor;
-ghost use Rattle.py_node.specs.declared.refs.PyObjectRef.{PyObjectRef as Object};
-ghost use Rattle.plain_machine.specs.Plain.{DoGetAttr, PlainWorld, ToAttribute, Ends};
-ghost use Rattle.plain_machine.specs.Row.{value};
-ghost use Rattle.plain_machine.specs.World.{datum_at};
-ghost use Rattle.class_world.specs.Claims.{of_descriptor_task, of_ended, of_step, of_task, Leaves};
-ghost use Rattle.class_world.specs.Reading.{Reading, Reads, plain, ended_of, task_of};
-ghost use Rattle.class_world.specs.Sound.{AllHold, Holds, IsNode, of_option, of_node_ref};
 ghost use Rattle.proto_attr.specs.ProtoDescr.Say.{getset_get, class_for, class_method_get, class_method_by, static_method_get};
 ghost use Rattle.proto_attr.specs.ProtoDescr.Rows.{Starts, Resumes, StepsAs, passed, nothing_held, of_descriptor_kept};
 

@@ -1,21 +1,6 @@
 -- The names that `__slots__` gives, and the descriptors of members.
-use Rattle.std.proofs.Common.{◌≡◌, ℕ, zero, suc, ◌<◌, ◌≤◌, ◌+◌, ◌-◌, List, [], ◌∷◌, ◌++◌, drop, drop-cons, length, get_or, map, Option, Some, None, refl, sym, ap, ◌∙◌, subst, arith, append_assoc}
-use Rattle.std.specs.Prelude.{option_map, IfSome}
-use Rattle.py_node.specs.declared.refs.PyObjectRef.{PyObjectRef}
-use Rattle.py_node.specs.declared.refs.PyStrInterned.{PyStrInterned}
-use Rattle.py_node.specs.declared.refs.PyTypeRef.{PyTypeRef}
-use Rattle.py_node.specs.Tree.{Text}
-use Rattle.class_model.specs.Layout.{place_count}
-use Rattle.class_model.specs.Order.{all_some}
-use Rattle.plain_machine.specs.Plain.{PlainWorld}
-use Rattle.plain_machine.specs.World.{datum_at, next_node, with_node, with_own_attr}
-use Rattle.class_world.specs.Held.{Held}
-use Rattle.class_world.specs.declared.world.World.{World}
-use Rattle.class_world.specs.Reading.{Reading, Reads, plain, spelled}
-use Rattle.class_world.specs.Sound.{IsName, AreNames, Holds, Grows}
-use Rattle.class_world.proofs.Growth.{grows-on}
-use Rattle.class_world.proofs.Stored.{map-push, names-push}
-use Rattle.proto_call.specs.ClassMake.Say.{a_member, or_zero, places_from, put_member, text_of, texts_of, the_member, with_member, with_members}
+use Rattle.proto_call.proofs.Below.{ℕ, zero, suc, List, [], drop, drop-cons, length, get_or, map, Option, Some, None, refl, sym, ap, ◌∙◌, subst, arith, append_assoc, option_map, IfSome, PyObjectRef, PyStrInterned, PyTypeRef, Text, place_count, all_some, PlainWorld, datum_at, next_node, with_node, with_own_attr, Held, World, Reading, Reads, plain, spelled, IsName, AreNames, Holds, Grows, grows-on, map-push, names-push, a_member, or_zero, places_from, put_member, text_of, texts_of, the_member, with_member, with_members}
+use Rattle.std.proofs.Common.{◌≡◌, ◌<◌, ◌≤◌, ◌+◌, ◌-◌, ◌∷◌, ◌++◌}
 
 -- a text, and more of them, if all are there
 all_of : Option Text → Option (List Text) → Option (List Text)

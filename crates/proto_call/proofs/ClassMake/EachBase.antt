@@ -1,18 +1,6 @@
 -- The bases of a class to be, one after another.
-use Rattle.std.proofs.Common.{◌≡◌, ℕ, zero, suc, ◌<◌, ◌≤◌, List, [], ◌∷◌, ◌++◌, length, drop, drop-cons, take, get_or, Option, Some, None, Result, Ok, Err, refl, sym, ap, ◌∙◌, subst, arith}
-use Rattle.std.specs.Prelude.{option_map, option_and_then, IfSome}
-use Rattle.py_node.specs.declared.built_in.BuiltIn.TheVariants.{TypeType}
-use Rattle.py_node.specs.declared.refs.PyObjectRef.{PyObjectRef}
-use Rattle.py_node.specs.declared.refs.PyTypeRef.{PyTypeRef}
-use Rattle.class_table.specs.Keys.{numbers}
-use Rattle.plain_machine.specs.Objects.{class_number}
-use Rattle.plain_machine.specs.World.{class_at, datum_at}
-use Rattle.class_world.specs.declared.world.World.{World}
-use Rattle.class_world.specs.Reading.{Reading, plain}
-use Rattle.class_world.specs.Sound.{IsClass, IsOf, Holding, Holds, AllHold, of_class_ref, of_each, of_option}
-use Rattle.class_world.proofs.Claims.{each-push}
-use Rattle.proto_call.specs.ClassMake.Say.{classes_of, derived, winner, with_class}
-use Rattle.proto_call.specs.ClassMake.Rows.{of_class_node}
+use Rattle.proto_call.proofs.Below.{ℕ, zero, suc, List, [], length, drop, drop-cons, take, get_or, Option, Some, None, Ok, Err, refl, sym, ap, ◌∙◌, subst, arith, option_map, option_and_then, IfSome, TypeType, PyObjectRef, PyTypeRef, numbers, class_number, class_at, datum_at, World, Reading, plain, IsClass, IsOf, Holding, Holds, AllHold, of_class_ref, of_each, of_option, each-push, classes_of, derived, winner, with_class, of_class_node}
+use Rattle.std.proofs.Common.{◌≡◌, ◌<◌, ◌≤◌, ◌∷◌, ◌++◌, Result}
 
 abbrev after : List ℕ → Result (List ℕ) PyObjectRef → Result (List ℕ) PyObjectRef
 after cs (Ok ds) = Ok (cs ++ ds)

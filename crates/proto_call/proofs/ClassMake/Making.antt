@@ -1,35 +1,9 @@
 -- The steps of the making of a class.
-use Rattle.std.proofs.Common.{◌≡◌, ℕ, zero, suc, ◌<◌, Bool, true, false, cond, List, [], ◌∷◌, ◌++◌, length, take, get_or, Option, Some, None, Result, Ok, Err, IfOk, refl, sym, ap, ◌∙◌, subst, arith, map, filter, not}
-use Rattle.std.specs.Prelude.{option_map, slice_get}
-use Rattle.std.specs.Option.{option_or}
-use Rattle.py_node.specs.declared.memory.OutOfMemory.{OutOfMemory}
-use Rattle.py_node.specs.declared.raised.Cause.{Cause}
-use Rattle.py_node.specs.declared.refs.PyObjectRef.{PyObjectRef}
-use Rattle.py_node.specs.declared.refs.PyStrInterned.{PyStrInterned}
-use Rattle.py_node.specs.declared.refs.PyTypeRef.{PyTypeRef}
-use Rattle.py_node.specs.declared.task.Step.{Step}
-use Rattle.py_node.specs.Attributes.{is_same_name, value_of}
-use Rattle.py_node.specs.Tree.{Text}
+use Rattle.proto_call.proofs.Below.{ℕ, zero, suc, Bool, true, false, cond, List, [], length, take, get_or, Option, Some, None, Ok, Err, refl, sym, ap, ◌∙◌, subst, arith, map, filter, not, option_map, slice_get, option_or, OutOfMemory, Cause, PyObjectRef, PyStrInterned, PyTypeRef, Step, is_same_name, value_of, Text, known_text, Class, refused_layout, refused_order, PlainWorld, Bindings, DoMakeClass, Said, Ends, fault, noting, heap_class, slot_members, ref, is_text, text_keys, with_new_class, Held, World, Reading, Reads, bindings, plain, Steps, qualified, refused_name, refused_heap, IsNode, AreNodes, Holds, AllHold, Grows, of_binding, of_each, Leaves, no-nodes, grows-on, ClassKept, Space, attrs_in, class_job_say, by_slots, made_unless, new_class, refusal, tell, values_of, whole_class, with_functions, with_own_members, Bound, Makes, class_stands, of_class_kept}
+use Rattle.std.proofs.Common.{◌≡◌, ◌<◌, ◌∷◌, ◌++◌, Result, IfOk}
 use Rattle.py_node.specs.declared.known.Known.TheVariants as known
-use Rattle.py_node.specs.Known.{known_text}
-use Rattle.class_model.specs.Class.{Class}
-use Rattle.class_table.specs.Refused.{refused_layout, refused_order}
-use Rattle.plain_machine.specs.Plain.{PlainWorld, Bindings, DoMakeClass, Made, Said, Ends}
-use Rattle.plain_machine.specs.Row.{fault, noting}
-use Rattle.class_model.specs.Dict.{heap_class, slot_members}
-use Rattle.plain_machine.specs.World.{ref, is_text, text_keys, with_new_class}
-use Rattle.class_world.specs.Held.{Held}
-use Rattle.class_world.specs.declared.world.World.{World}
-use Rattle.class_world.specs.Reading.{Reading, Reads, bindings, plain}
-use Rattle.class_world.specs.Rows.{Steps}
-use Rattle.class_world.specs.NewHeap.{qualified, refused_name, refused_heap}
-use Rattle.class_world.specs.Sound.{IsNode, AreNodes, Holds, AllHold, Grows, of_binding, of_each}
-use Rattle.class_world.specs.Claims.{Leaves}
-use Rattle.class_world.proofs.Claims.{no-nodes}
-use Rattle.class_world.proofs.Growth.{grows-on}
-use Rattle.proto_call.specs.declared.class_make.ClassKept.{ClassKept}
-use Rattle.proto_call.specs.ClassMake.Say.{Space, attrs_in, class_job_say, by_slots, made, made_unless, new_class, refusal, tell, values_of, whole_class, with_functions, with_own_members}
-use Rattle.proto_call.specs.ClassMake.Rows.{Bound, Makes, class_stands, of_class_kept}
+use Rattle.plain_machine.specs.Plain.{Made}
+use Rattle.proto_call.specs.ClassMake.Say.{made}
 
 -- functions are defined by a class, one after another
 pub record Defining (old now : World) (class : PyTypeRef) (rest all : List PyObjectRef) : Type 0 where

@@ -1,11 +1,8 @@
 -- The objects that stand for classes.
-use Rattle.std.proofs.Common.{◌≡◌, ℕ, true, false, cond, eqb, Bool, [], ◌∷◌, inl, inr, refl, ap}
-use Rattle.std.specs.Prelude.{Some, is_some}
-use Rattle.std.proofs.lemmas.Bool.{eq-eqb}
-use Rattle.class_model.specs.Class.{Class, Classes, class_at, is_class, renamed, subclasses}
-use Rattle.class_model.specs.Order.{has, Includes}
-use Rattle.class_world.specs.Held.{Held}
-use Rattle.class_world.specs.Reading.{Reading, spelled, plain}
+use Rattle.proto_call.proofs.Below.{ℕ, true, false, cond, eqb, Bool, [], inl, inr, refl, ap, is_some, eq-eqb, Class, Classes, is_class, renamed, subclasses, has, Includes, Held, Reading, spelled, plain}
+use Rattle.std.proofs.Common.{◌≡◌, ◌∷◌}
+use Rattle.std.specs.Prelude.{Some}
+use Rattle.class_model.specs.Class.{class_at}
 
 -- subclasses are classes
 module _ {K : Type 0} where

@@ -1,40 +1,8 @@
 -- The parts that a class is made from, as they are read.
-use Rattle.std.proofs.Common.{◌≡◌, ℕ, suc, ◌≤◌, ◌-◌, take, true, false, cond, List, [], ◌∷◌, length, drop, get_or, Option, Some, None, Result, Ok, Err, IfOk, refl, sym, ap, ◌∙◌, subst, arith, not, eqb}
-use Rattle.std.specs.Prelude.{◌&&◌, is_some, IfSome}
-use Rattle.std.proofs.lemmas.Bool.{eqb-true, true≢false}
-use Rattle.py_node.specs.declared.memory.OutOfMemory.{OutOfMemory}
-use Rattle.py_node.specs.declared.refs.PyObjectRef.{PyObjectRef}
-use Rattle.py_node.specs.declared.refs.PyTypeRef.{PyTypeRef}
-use Rattle.py_node.specs.declared.entry.SlotId.TheVariants.{New}
-use Rattle.py_node.specs.declared.entry.TypeNative.{TypeNative}
-use Rattle.py_node.specs.declared.raised.Cause.{Cause}
-use Rattle.py_node.specs.declared.raised.Cause.TheVariants.{NullInName, TypeArgs}
-use Rattle.py_node.specs.declared.known.Known.TheVariants.{MroEntries}
-use Rattle.py_node.specs.Known.{known_text}
-use Rattle.py_node.specs.declared.raised.Raised.{Raised as Fault}
-use Rattle.py_node.specs.declared.task.Answer.{Answer}
-use Rattle.py_node.specs.declared.task.Step.{Step}
-use Rattle.py_node.specs.declared.task.Step.TheVariants.{End}
-use Rattle.py_node.specs.Tree.{Text}
-use Rattle.class_model.specs.BuiltIn.{natives_of}
-use Rattle.class_model.specs.Slot.{entry}
-use Rattle.class_table.specs.Keys.{numbers}
-use Rattle.class_table.specs.Refused.{refused_layout}
-use Rattle.plain_machine.specs.Plain.{PlainWorld, Bindings, Asks, Chose, DoGetAttr, DoMakeClass, DoType, Said, Ends, ToAttribute, ToCall, DoNew}
-use Rattle.plain_machine.specs.Objects.{class_number, type_object}
-use Rattle.plain_machine.specs.Row.{value, fault, pass}
-use Rattle.plain_machine.specs.Rows.{fresh}
-use Rattle.plain_machine.specs.World.{datum_at, text_keys}
-use Rattle.class_world.specs.Held.{Held}
-use Rattle.class_world.specs.declared.world.World.{World}
-use Rattle.class_world.specs.Reading.{Reading, bindings, plain}
-use Rattle.class_world.specs.Rows.{EndsAs, Steps, Goes}
-use Rattle.class_world.specs.Sound.{IsNode, AreNodes, Holds}
-use Rattle.class_world.proofs.Claims.{node-in}
-use Rattle.proto_call.specs.declared.class_make.ClassKept.{ClassKept}
-use Rattle.proto_call.specs.ClassMake.Say.{Entries, class_job_say, by_bases, by_classes, by_one, by_parts, by_winner, called_with, classes_of, dict_of, from_three, namespace, on_bases, on_layout, one_of, text_of, three_of, tuple_of, type_by, type_call, type_new, type_new_of, with_namespace, winner}
-use Rattle.row_kit.specs.Questions.{has_null}
-use Rattle.proto_call.specs.ClassMake.Rows.{Bound, Makes, Types, class_stands}
+use Rattle.proto_call.proofs.Below.{ℕ, suc, take, true, false, cond, List, [], length, drop, get_or, Option, Some, None, Ok, Err, refl, sym, ap, ◌∙◌, subst, arith, not, eqb, is_some, IfSome, eqb-true, true≢false, OutOfMemory, PyObjectRef, PyTypeRef, New, TypeNative, Cause, NullInName, TypeArgs, MroEntries, known_text, Raised as Fault, Answer, Step, End, Text, natives_of, entry, numbers, refused_layout, PlainWorld, Bindings, Asks, Chose, DoGetAttr, DoMakeClass, DoType, Said, Ends, ToAttribute, ToCall, DoNew, class_number, type_object, value, fault, pass, fresh, datum_at, text_keys, Held, World, Reading, bindings, plain, EndsAs, Steps, Goes, IsNode, AreNodes, Holds, node-in, ClassKept, Entries, class_job_say, by_bases, by_classes, by_one, by_parts, by_winner, called_with, classes_of, dict_of, from_three, namespace, on_bases, on_layout, text_of, three_of, tuple_of, type_by, type_call, type_new, type_new_of, with_namespace, winner, has_null, Bound, Makes, Types, class_stands}
+use Rattle.std.proofs.Common.{◌≡◌, ◌≤◌, ◌-◌, ◌∷◌, Result, IfOk}
+use Rattle.std.specs.Prelude.{◌&&◌}
+use Rattle.proto_call.specs.ClassMake.Say.{one_of}
 
 -- the bases: allowed together, or not
 pub bases-read : (u v : PlainWorld) (meta : ℕ) (name : Text) (bases : List ℕ) (es ds : Entries) (kw : Bindings) (o : Option Bindings) → v ≡ u → refused_layout u.classes bases ≡ None → namespace u ds ≡ o → ds ≡ es → with_namespace v meta name bases o kw ≡ on_bases u meta name bases es kw

@@ -1,29 +1,8 @@
 -- The places that a class gives its objects itself.
-use Rattle.std.proofs.Common.{◌≡◌, ℕ, ◌<◌, ◌≤◌, ◌+◌, ◌-◌, Bool, true, false, cond, ◌||◌, List, [], ◌∷◌, ◌++◌, length, Option, Some, None, inl, inr, refl, sym, ap, ◌∙◌, arith}
-use Rattle.std.specs.Prelude.{nat_lt, is_some, option_map, option_and_then, slice_get}
-use Rattle.std.proofs.lemmas.Bool.{ne_eqb, eq-eqb}
-use Rattle.std.proofs.lemmas.Option.{slice_get_within}
-use Rattle.py_node.specs.declared.refs.PyObjectRef.{PyObjectRef}
-use Rattle.py_node.specs.Tree.{Text}
-use Rattle.class_model.specs.Order.{Includes, BeginsWith}
-use Rattle.class_model.specs.Class.{Class, Classes, class_at, is_class, bases_of, lin}
+use Rattle.proto_call.proofs.Below.{ℕ, Bool, true, false, cond, List, [], length, Option, Some, None, inl, inr, refl, sym, ap, ◌∙◌, arith, nat_lt, is_some, option_map, option_and_then, slice_get, ne_eqb, eq-eqb, slice_get_within, PyObjectRef, Text, Includes, BeginsWith, Class, Classes, is_class, bases_of, lin, built_ins, has_members, is_solid, layout_along, member_count, members_in, before, place_along, place_count, first_place, place_at, solid, best_of, limit, AreSound, solid-rule, limit-within, some-of, at-last, lin-begins, lin-distinct, count-line, layout-own, AClass, PlainWorld, IsSound, datum_at, with_new_class, with_definer, members-append, holder, in-layout, defined, functions_of, or_zero, places_from, with_functions}
+use Rattle.std.proofs.Common.{◌≡◌, ◌<◌, ◌≤◌, ◌+◌, ◌-◌, ◌||◌, ◌∷◌, ◌++◌}
+use Rattle.class_model.specs.Class.{class_at}
 use Rattle.class_model.specs.Change.{with_class}
-use Rattle.class_model.specs.Layout.{built_ins, has_members, is_solid, layout_along, member_count, members_in, before, place_along, place_count, first_place, place_at, solid, best_of}
-use Rattle.class_model.specs.Numbers.{limit}
-use Rattle.class_model.specs.Sound.{AreSound}
-use Rattle.class_model.proofs.Layouts.{solid-rule}
-use Rattle.class_model.proofs.Made.{limit-within}
-use Rattle.class_model.proofs.Numbers.{some-of, at-last}
-use Rattle.class_model.proofs.Rule.{lin-begins, lin-distinct}
-use Rattle.class_table.proofs.Counts.{count-line, layout-own}
-use Rattle.plain_machine.specs.Plain.{AClass, PlainWorld}
-use Rattle.plain_machine.specs.Sound.{IsSound}
-use Rattle.plain_machine.specs.World.{datum_at, with_new_class}
-use Rattle.plain_machine.specs.Objects.{with_definer}
-use Rattle.plain_machine.proofs.Offsets.{members-append}
-use Rattle.plain_machine.proofs.Pushed.{holder}
-use Rattle.class_model.proofs.PlaceOffsets.{in-layout}
-use Rattle.proto_call.specs.ClassMake.Say.{defined, functions_of, or_zero, places_from, with_functions}
 
 module _ {K : Type 0} (t : Classes K) where
   own-within : (c : ℕ) (line : List ℕ) → BeginsWith c line → member_count (class_at t c) ≤ members_in t line

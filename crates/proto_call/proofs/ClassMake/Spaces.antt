@@ -1,27 +1,10 @@
 -- The attributes of a class to be, as a reading has them.
-use Rattle.std.proofs.Common.{◌≡◌, ℕ, zero, suc, ◌<◌, Bool, true, false, cond, List, [], ◌∷◌, Option, Some, None, refl, sym, ap, ◌∙◌, subst, not, length, get_or, drop, drop-cons, arith, map}
-use Rattle.std.specs.Prelude.{◌&&◌, is_some, option_map, IfSome}
-use Rattle.py_node.specs.declared.refs.PyObjectRef.{PyObjectRef}
-use Rattle.py_node.specs.declared.refs.PyStrInterned.{PyStrInterned}
-use Rattle.py_node.specs.declared.entry.NativeEntry.TheVariants.{Getter, Setter}
+use Rattle.proto_call.proofs.Below.{ℕ, zero, suc, Bool, true, false, cond, List, [], Option, Some, None, refl, sym, ap, ◌∙◌, subst, not, length, get_or, drop, drop-cons, arith, map, is_some, option_map, IfSome, PyObjectRef, PyStrInterned, Getter, Setter, value_of, with_value, is_same_name, Text, known_text, Datum, ADict, AText, AClassMethod, AGetSet, PlainWorld, ref, is_text, class_at, datum_at, has_dict, push_node, with_node, next_node, none, the_object, the_dict, the_str, the_function, the_getset, the_class_method, Held, Reading, Reads, bindings, plain, World, IsName, IsNode, AreNodes, Holds, AllHold, Grows, of_binding, of_each, value-read, with_value-read, value-holds, with_value-holds, all-grow, grows-on, Space, has_name, put, give, wrap_value, wrap, qualify, unhash, give_dict, completed, would_have_dict, dicted, namespace_from, text_of, Bound}
+use Rattle.std.proofs.Common.{◌≡◌, ◌<◌, ◌∷◌}
+use Rattle.std.specs.Prelude.{◌&&◌}
 use Rattle.py_node.specs.declared.entry.Property.TheVariants as property
-use Rattle.py_node.specs.Attributes.{value_of, with_value, is_same_name}
-use Rattle.py_node.specs.Tree.{Text}
 use Rattle.py_node.specs.declared.known.Known.TheVariants as known
-use Rattle.py_node.specs.Known.{known_text}
-use Rattle.plain_machine.specs.Plain.{Datum, ADict, AText, AClassMethod, AGetSet, PlainWorld}
-use Rattle.plain_machine.specs.World.{ref, is_text, class_at, datum_at, has_dict, push_node, with_node, next_node}
-use Rattle.plain_machine.specs.Row.{none}
-use Rattle.plain_machine.specs.Known.{the_object, the_dict, the_str, the_function, the_getset, the_class_method}
-use Rattle.class_world.specs.Held.{Held}
-use Rattle.class_world.specs.Reading.{Reading, Reads, bindings, plain}
-use Rattle.class_world.specs.declared.world.World.{World}
-use Rattle.class_world.specs.Sound.{IsName, IsNode, AreNodes, Holds, AllHold, Grows, of_binding, of_each}
-use Rattle.class_world.proofs.Bound.{value-read, with_value-read, value-holds, with_value-holds}
-use Rattle.class_world.proofs.Claims.{all-grow}
-use Rattle.class_world.proofs.Growth.{grows-on}
-use Rattle.proto_call.specs.ClassMake.Say.{Space, is_class, has_name, put, give, wrap_value, wrap, qualify, unhash, give_dict, completed, would_have_dict, dicted, named, namespace_from, text_of}
-use Rattle.proto_call.specs.ClassMake.Rows.{Bound}
+use Rattle.proto_call.specs.ClassMake.Say.{is_class, named}
 
 module _ (t : Reading) where
   -- the value of a name, by its text

@@ -1,36 +1,12 @@
 -- How a class that was made is told of.
-use Rattle.std.proofs.Common.{◌≡◌, ℕ, zero, suc, ◌≤◌, ◌+◌, List, [], ◌∷◌, ◌++◌, drop, length, Option, Some, None, Ok, Err, IfOk, refl, sym, ap, ◌∙◌, subst, arith, append_assoc}
-use Rattle.std.specs.Prelude.{Result, slice_get}
-use Rattle.std.specs.Global.{Vec}
-use Rattle.py_node.specs.declared.memory.OutOfMemory.{OutOfMemory}
-use Rattle.py_node.specs.declared.raised.Raised.{Raised as Fault}
-use Rattle.py_node.specs.declared.raised.Cause.TheVariants.{SetNameCalled}
-use Rattle.py_node.specs.Faults.{raised}
-use Rattle.py_node.specs.declared.refs.PyObjectRef.{PyObjectRef}
-use Rattle.py_node.specs.declared.refs.PyStrInterned.{PyStrInterned}
-use Rattle.py_node.specs.declared.task.Answer.{Answer}
-use Rattle.py_node.specs.declared.task.Answer.TheVariants.{Method, Value}
+use Rattle.proto_call.proofs.Below.{ℕ, zero, suc, List, [], drop, length, Option, Some, None, Ok, Err, refl, sym, ap, ◌∙◌, subst, arith, append_assoc, Result, slice_get, Vec, OutOfMemory, Raised as Fault, SetNameCalled, raised, PyObjectRef, PyStrInterned, Answer, Method, Value, Step, Ask, End, SetName, known_text, the_str, special_at, type_object, PlainWorld, Bindings, AText, DoMakeClass, DoBind, DoCall, ToAttribute, ToCall, Answered, ReadNames, ReadObjects, Ended, Told, Said, Asks, Ends, Row, end, fault, noting, on_value, value, ref, next_node, with_node, World, Reading, Reads, bindings, ended_of, plain, spelled, Steps, ClassKept, Binding, Calling, Telling, bind_hook, bind_hooks, call_hooks, class_job_say, init_subclass, own_values, tell, there, unless_raised, Bound, Makes, bound_told, class_stands, hooks_told, left}
+use Rattle.std.proofs.Common.{◌≡◌, ◌≤◌, ◌+◌, ◌∷◌, ◌++◌, IfOk}
 use Rattle.py_node.specs.declared.task.AttributeTask.TheVariants as attribute
 use Rattle.py_node.specs.declared.task.CallTask.TheVariants as call
 use Rattle.py_node.specs.declared.task.PyMethod.TheVariants as method
-use Rattle.py_node.specs.declared.task.Step.{Step}
-use Rattle.py_node.specs.declared.task.Step.TheVariants.{Ask, End}
 use Rattle.py_node.specs.declared.task.Task.TheVariants as task
-use Rattle.py_node.specs.declared.known.Known.TheVariants.{SetName}
-use Rattle.py_node.specs.Known.{known_text}
-use Rattle.plain_machine.specs.Known.{the_str}
-use Rattle.plain_machine.specs.Objects.{special_at, type_object}
-use Rattle.plain_machine.specs.Plain.{PlainWorld, Bindings, AText, DoMakeClass, DoBind, DoCall, ToAttribute, ToCall, Answered, Made, ReadNames, ReadObjects, Ended, Told, Said, Asks, Ends}
-use Rattle.plain_machine.specs.Row.{Row, end, fault, noting, on_value, value}
-use Rattle.plain_machine.specs.World.{ref, next_node, with_node}
-use Rattle.class_world.specs.declared.world.World.{World}
-use Rattle.class_world.specs.Reading.{Reading, Reads, bindings, ended_of, plain, spelled}
-use Rattle.class_world.specs.Rows.{Steps}
-use Rattle.proto_call.specs.declared.class_make.ClassKept.{ClassKept}
-use Rattle.proto_call.specs.declared.class_make.ClassKept.TheVariants.{Binding, Calling}
-use Rattle.proto_call.specs.declared.class_make.tell.Telling.{Telling}
-use Rattle.proto_call.specs.ClassMake.Say.{bind_hook, bind_hooks, call_hooks, class_job_say, init_subclass, own_values, tell, there, unless_raised}
-use Rattle.proto_call.specs.ClassMake.Rows.{Bound, IsOther, Makes, Resumes, Takes, TakesAt, bound_told, class_stands, hooks_told, left}
+use Rattle.plain_machine.specs.Plain.{Made}
+use Rattle.proto_call.specs.ClassMake.Rows.{IsOther, Resumes, Takes, TakesAt}
 
 -- a class that is made, and then told of as a row says
 module _ (kw : Bound) (class : PyObjectRef) (mid new : World) where

@@ -1,35 +1,11 @@
 -- Calls whose arguments are evaluated in order.
-use Rattle.std.proofs.Common.{◌≡◌, ◌==◌, ℕ, zero, suc, ◌≤◌, List, [], ◌∷◌, ◌++◌, length, map, take, Some, None, true, refl, sym, ap, ◌∙◌, subst, arith, length-append}
-use Rattle.std.specs.Prelude.{slice_get, Result}
-use Rattle.std.specs.Global.{Vec}
-use Rattle.std.proofs.lemmas.Bool.{eqb-true, ltb-true, lt-ltb}
-use Rattle.std.proofs.lemmas.List.{map-append, length-map, take_all}
-use Rattle.std.proofs.lemmas.Option.{slice_get_within}
-use Rattle.py_node.specs.declared.refs.PyObjectRef.{PyObjectRef}
-use Rattle.py_node.specs.declared.raised.Raised.{Raised as Fault}
-use Rattle.py_node.specs.declared.task.Answer.{Answer}
+use Rattle.proto_call.proofs.Below.{ℕ, zero, suc, List, [], length, map, take, Some, None, true, refl, sym, ap, ◌∙◌, subst, arith, length-append, slice_get, Result, Vec, eqb-true, ltb-true, lt-ltb, map-append, length-map, take_all, slice_get_within, PyObjectRef, Raised as Fault, Answer, Form, Step, Ask, End, Text, Tree, list_of, entry_trees, PlainWorld, DoEval, ToEval, Answered, Told, Asks, Ends, Row, start, pass, end, evaluate, Held, Reading, Reads, entry_list, form_tree, spelled, plain, ended_of, Holds, AllHold, AreNames, IsExpression, HasForm, of_form, got-map, World, Steps, EvalKept, Arguments, Called, entry_names, given_say, eval_say, Takes, answered, args_of, keywords_of, positional, named, called_tree, called_told, called_task, eval_stands, arguments, arguments_at, has_argument, IsOther, Resumes, GoesOn}
+use Rattle.std.proofs.Common.{◌≡◌, ◌==◌, ◌≤◌, ◌∷◌, ◌++◌}
 use Rattle.py_node.specs.declared.task.PyMethod.TheVariants as method
-use Rattle.py_node.specs.declared.payload.Form.{Form}
 use Rattle.py_node.specs.declared.payload.Form.TheVariants as form
-use Rattle.py_node.specs.declared.task.Step.{Step}
-use Rattle.py_node.specs.declared.task.Step.TheVariants.{Ask, End}
 use Rattle.py_node.specs.declared.task.Task.TheVariants as task
 use Rattle.py_node.specs.declared.task.EvalTask.TheVariants as eval
-use Rattle.py_node.specs.Tree.{Text, Tree, list_of, entry_trees}
-use Rattle.plain_machine.specs.Plain.{PlainWorld, DoEval, ToEval, Answered, Told, Asks, Ends}
-use Rattle.plain_machine.specs.Row.{Row, start, pass, end, evaluate}
-use Rattle.class_world.specs.Held.{Held}
-use Rattle.class_world.specs.Reading.{Reading, Reads, entry_list, form_tree, spelled, plain, ended_of}
-use Rattle.class_world.specs.Sound.{Holds, AllHold, AreNames, IsExpression, HasForm, of_form}
-use Rattle.class_world.proofs.Claims.{got-map}
-use Rattle.class_world.specs.declared.world.World.{World}
-use Rattle.class_world.specs.Rows.{Steps}
-use Rattle.proto_call.specs.declared.eval_forms.EvalKept.{EvalKept}
-use Rattle.proto_call.specs.declared.eval_forms.EvalKept.TheVariants.{Arguments}
-use Rattle.proto_call.specs.declared.eval_forms.call_form.Called.{Called}
 use Rattle.proto_call.specs.declared.eval_forms.call_form.Called.TheVariants as called
-use Rattle.proto_call.specs.EvalForms.Say.{entry_names, given_say, eval_say}
-use Rattle.proto_call.specs.EvalForms.Rows.{Takes, answered, args_of, keywords_of, positional, named, called_tree, called_told, called_task, eval_stands, arguments, arguments_at, has_argument, IsOther, Resumes, GoesOn}
 use Rattle.proto_call.proofs.EvalForms.Operands.{part, list_of-trees_of, entry_trees-list, long-trees, names-of-entries, append-nil, append-on, append-holds, point-takes, there, evaluate-ask, evaluate-other, evaluate-all}
 
 -- all that is evaluated for the arguments and keywords of a call

@@ -1,31 +1,7 @@
 -- The class form: names with their values, and the new objects of a class.
-use Rattle.std.proofs.Common.{◌≡◌, ℕ, zero, suc, List, [], ◌∷◌, ◌++◌, length, take, drop, map, Some, None, Ok, Err, arith, refl, sym, ap, ◌∙◌, subst}
-use Rattle.std.specs.Prelude.{slice_get, Option, Result, IfOk, IfSome, true, cond, nat_le}
-use Rattle.std.proofs.lemmas.List.{length-map}
-use Rattle.py_node.specs.Tree.{Text}
-use Rattle.py_node.specs.declared.memory.OutOfMemory.{OutOfMemory}
-use Rattle.py_node.specs.declared.task.Step.{Step}
-use Rattle.py_node.specs.declared.task.Step.TheVariants.{Ask}
-use Rattle.py_node.specs.declared.task.Task.{Task}
-use Rattle.py_node.specs.declared.refs.PyObjectRef.{PyObjectRef}
-use Rattle.py_node.specs.declared.refs.PyStrInterned.{PyStrInterned}
-use Rattle.plain_machine.specs.Plain.{PlainWorld, Bindings, AText, ATuple, DoCall, ToCall, Said, Asks}
-use Rattle.plain_machine.specs.Args.{filled}
-use Rattle.py_node.specs.declared.raised.Cause.TheVariants.{TooLong}
-use Rattle.plain_machine.specs.Row.{Row, start, end, fault, most_items}
-use Rattle.plain_machine.specs.World.{with_node, next_node}
-use Rattle.class_world.specs.Held.{Held}
-use Rattle.class_world.specs.Reading.{Reading, Reads, bindings, spelled, plain, task_of}
-use Rattle.class_world.specs.declared.world.World.{World}
-use Rattle.class_world.specs.Sound.{Grows, Holds, AllHold, IsName, IsNode, AreNodes, of_each, of_binding, of_option, of_node_ref}
-use Rattle.class_world.proofs.Claims.{each-get, no-nodes, more-nodes, node-in}
-use Rattle.class_world.proofs.Stored.{map-push}
-use Rattle.proto_call.specs.EvalForms.Say.{Pairs, keyed, metaclass, given_metaclass, other_keywords, on_keywords, unrepeated, with_dict, call_with, class_by, class_say, class_within, eval_say}
-use Rattle.plain_machine.specs.Known.{the_str, the_tuple}
-use Rattle.proto_call.specs.declared.eval_forms.EvalKept.{EvalKept}
-use Rattle.proto_call.specs.declared.eval_forms.EvalKept.TheVariants.{Pass}
-use Rattle.proto_call.specs.EvalForms.Rows.{TakesAt, Takes}
-use Rattle.proto_call.specs.EvalForms.ClassForm.{ArePairs}
+use Rattle.proto_call.proofs.Below.{ℕ, zero, suc, List, [], length, take, drop, map, Some, None, Ok, Err, arith, refl, sym, ap, ◌∙◌, subst, slice_get, Result, IfOk, IfSome, nat_le, length-map, Text, OutOfMemory, Step, Ask, Task, PyObjectRef, PyStrInterned, PlainWorld, Bindings, AText, ATuple, DoCall, ToCall, Said, Asks, filled, TooLong, Row, start, end, fault, most_items, with_node, next_node, Held, Reading, Reads, bindings, spelled, plain, task_of, World, Grows, Holds, AllHold, IsName, IsNode, AreNodes, of_each, of_binding, of_option, of_node_ref, each-get, no-nodes, more-nodes, node-in, map-push, Pairs, keyed, metaclass, given_metaclass, other_keywords, on_keywords, unrepeated, with_dict, call_with, class_by, class_say, class_within, eval_say, the_str, the_tuple, EvalKept, Pass, TakesAt, Takes, ArePairs}
+use Rattle.std.proofs.Common.{◌≡◌, ◌∷◌, ◌++◌}
+use Rattle.std.specs.Prelude.{Option, true, cond}
 
 pub drop-all : {A : Type 0} (xs : List A) → drop (length xs) xs ≡ []
 drop-all [] = refl

@@ -1,28 +1,11 @@
 -- Words some of whose operands stand for numbers, as the rows that go on say it.
-use Rattle.std.proofs.Common.{◌≡◌, [], ◌∷◌, ◌++◌, Result, Ok, refl, sym, ap, ◌∙◌, subst}
-use Rattle.py_node.specs.declared.refs.PyObjectRef.{PyObjectRef}
-use Rattle.py_node.specs.declared.raised.Raised.{Raised as Fault}
-use Rattle.py_node.specs.declared.task.Answer.{Answer}
-use Rattle.py_node.specs.declared.task.Answer.TheVariants.{Value}
+use Rattle.proto_call.proofs.Below.{[], Ok, refl, sym, ap, ◌∙◌, subst, PyObjectRef, Raised as Fault, Answer, Value, Ask, End, Task, PlainWorld, Answered, DoIndex, ToProtocol, Told, Ended, Said, Asks, Ends, start, pass, value, Reading, plain, task_of, ended_of, Steps, World, EvalKept, Made, Count, Stop, Outcome, Counted, Part, counted_by, made, part_start, part_stop, with_index, eval_say, Resumes, eval_stands}
+use Rattle.std.proofs.Common.{◌≡◌, ◌∷◌, ◌++◌, Result}
 use Rattle.py_node.specs.declared.protocol.ProtocolTask.TheVariants as protocol
-use Rattle.py_node.specs.declared.task.Step.TheVariants.{Ask, End}
-use Rattle.py_node.specs.declared.task.Task.{Task}
 use Rattle.py_node.specs.declared.task.Task.TheVariants as task
-use Rattle.plain_machine.specs.Plain.{PlainWorld, Answered, DoIndex, ToProtocol, Told, Ended, Said, Asks, Ends}
-use Rattle.plain_machine.specs.Row.{start, pass, value}
-use Rattle.class_world.specs.Reading.{Reading, plain, task_of, ended_of}
-use Rattle.class_world.specs.Rows.{Steps}
-use Rattle.class_world.specs.declared.world.World.{World}
-use Rattle.proto_call.specs.declared.eval_forms.EvalKept.{EvalKept}
-use Rattle.proto_call.specs.declared.eval_forms.EvalKept.TheVariants.{Made, Count, Start, Stop}
-use Rattle.proto_call.specs.declared.eval_forms.outcome.Outcome.{Outcome}
-use Rattle.proto_call.specs.declared.eval_forms.bounds.Counted.{Counted}
+use Rattle.proto_call.specs.declared.eval_forms.EvalKept.TheVariants.{Start}
 use Rattle.proto_call.specs.declared.eval_forms.bounds.Counted.TheVariants as counted
-use Rattle.proto_call.specs.declared.eval_forms.bounds.Part.{Part}
 use Rattle.proto_call.specs.declared.eval_forms.bounds.Part.TheVariants as part
-use Rattle.proto_call.specs.EvalForms.Words.{counted_by, made, part_start, part_stop, with_index}
-use Rattle.proto_call.specs.EvalForms.Say.{eval_say}
-use Rattle.proto_call.specs.EvalForms.Rows.{Resumes, eval_stands}
 use Rattle.proto_call.proofs.EvalForms.Operands.{append-nil, append-on}
 use Rattle.proto_call.proofs.EvalForms.Outcomes.{made-stands}
 

@@ -1,40 +1,12 @@
 -- Dicts whose keys and values are evaluated in order.
-use Rattle.std.proofs.Common.{◌≡◌, ℕ, zero, suc, ◌<◌, ◌≤◌, true, false, cond, List, [], ◌∷◌, ◌++◌, length, map, Some, None, Ok, Err, refl, sym, ap, ◌∙◌, subst, arith}
-use Rattle.std.specs.Prelude.{slice_get, is_some, Result, IfOk}
-use Rattle.std.specs.Global.{Vec}
-use Rattle.std.proofs.lemmas.Bool.{ltb-true, lt-ltb}
-use Rattle.std.proofs.lemmas.Option.{slice_get_within}
-use Rattle.py_node.specs.declared.refs.PyObjectRef.{PyObjectRef}
-use Rattle.py_node.specs.declared.memory.OutOfMemory.{OutOfMemory}
-use Rattle.py_node.specs.declared.raised.Raised.{Raised as Fault}
-use Rattle.py_node.specs.declared.raised.Cause.TheVariants.{KeyType}
-use Rattle.py_node.specs.declared.task.Answer.{Answer}
-use Rattle.py_node.specs.declared.task.Answer.TheVariants.{Value}
-use Rattle.py_node.specs.declared.payload.Form.{Form}
+use Rattle.proto_call.proofs.Below.{ℕ, zero, suc, true, false, cond, List, [], length, map, Some, None, Ok, Err, refl, sym, ap, ◌∙◌, subst, arith, slice_get, is_some, Result, IfOk, Vec, ltb-true, lt-ltb, slice_get_within, PyObjectRef, OutOfMemory, Raised as Fault, KeyType, Answer, Value, Form, Step, Ask, End, Text, Tree, TDict, KeyedTrees, no_keyed, keyed_of, entries_from, PlainWorld, DoEval, ToEval, Answered, Told, Asks, Ends, Row, fault, end, key_at, Held, of_pairs, Reading, Reads, form_tree, plain, ended_of, Holds, AllHold, IsNode, AreNodes, IsExpression, CanBeKeys, HasForm, held_key, of_form, expression-in, got-map, all-pushed, map-end, key_at-read, World, Steps, EvalKept, Key, Pairs, evaluate_pairs, make_dict, eval_say, answered, eval_stands, of_eval_kept, pairs_of, pairs_told, pairs, pairs_at, has_pair, IsOther, IsOwn, EndsRow, Continues, GoesOn, Resumes, operands}
+use Rattle.std.proofs.Common.{◌≡◌, ◌<◌, ◌≤◌, ◌∷◌, ◌++◌}
 use Rattle.py_node.specs.declared.payload.Form.TheVariants as form
-use Rattle.py_node.specs.declared.task.Step.{Step}
-use Rattle.py_node.specs.declared.task.Step.TheVariants.{Ask, End}
 use Rattle.py_node.specs.declared.task.Task.TheVariants as task
 use Rattle.py_node.specs.declared.task.EvalTask.TheVariants as eval
-use Rattle.py_node.specs.Tree.{Text, Tree, TDict, KeyedTrees, no_keyed, keyed, keyed_of}
-use Rattle.plain_machine.specs.Dicts.{entries_from}
-use Rattle.plain_machine.specs.Plain.{PlainWorld, DoEval, ToEval, Answered, Told, Asks, Ends}
-use Rattle.plain_machine.specs.Row.{Row, fault, end}
-use Rattle.plain_machine.specs.Sound.{key_at}
-use Rattle.class_world.specs.Held.{Held}
-use Rattle.class_world.specs.Keyed.{of_pairs}
-use Rattle.class_world.specs.Reading.{Reading, Reads, form_tree, plain, ended_of}
-use Rattle.class_world.specs.Sound.{Holds, AllHold, IsNode, AreNodes, IsExpression, CanBeKeys, HasForm, held_key, of_form}
-use Rattle.class_world.proofs.Claims.{expression-in, got-map}
-use Rattle.class_world.proofs.DictEntries.{all-pushed, map-end}
-use Rattle.class_world.proofs.SoundWorld.{key_at-read}
-use Rattle.class_world.specs.declared.world.World.{World}
-use Rattle.class_world.specs.Rows.{Steps}
-use Rattle.proto_call.specs.declared.eval_forms.EvalKept.{EvalKept}
-use Rattle.proto_call.specs.declared.eval_forms.EvalKept.TheVariants.{Key, Value as OfKey}
+use Rattle.py_node.specs.Tree.{keyed}
+use Rattle.proto_call.specs.declared.eval_forms.EvalKept.TheVariants.{Value as OfKey}
 use Rattle.proto_call.specs.declared.eval_forms.Own.TheVariants as own
-use Rattle.proto_call.specs.EvalForms.Say.{Pairs, evaluate_pairs, make_dict, eval_say}
-use Rattle.proto_call.specs.EvalForms.Rows.{answered, eval_stands, of_eval_kept, pairs_of, pairs_told, pairs, pairs_at, has_pair, IsOther, IsOwn, EndsRow, Continues, GoesOn, Resumes, operands}
 use Rattle.proto_call.proofs.EvalForms.Operands.{append-nil, append-on, on-other}
 
 -- the pairs past the first so many

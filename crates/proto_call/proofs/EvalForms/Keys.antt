@@ -1,25 +1,7 @@
 -- The keys of a class's namespace are texts, no two of them alike.
-use Rattle.std.proofs.Common.{◌≡◌, ℕ, zero, suc, ◌+◌, ◌⊎◌, Bool, true, false, List, [], ◌∷◌, ◌++◌, length, map, Option, Some, None, inl, inr, refl, sym, ap, ◌∙◌, subst, length-append, true≢false}
-use Rattle.std.specs.Prelude.{slice_get, cond, is_some, option_map, option_and_then}
-use Rattle.std.specs.List.{IsDistinct, AllByRecursion}
-use Rattle.std.proofs.lemmas.Bool.{eqb-true, eq-eqb}
-use Rattle.py_node.specs.declared.refs.PyObjectRef.{PyObjectRef}
-use Rattle.py_node.specs.declared.refs.PyStrInterned.{PyStrInterned}
-use Rattle.py_node.specs.Attributes.{is_same_name, AreNamesDistinct}
-use Rattle.std.specs.Map.{keys_of}
-use Rattle.py_node.specs.Tree.{Text}
-use Rattle.plain_machine.specs.Plain.{Datum, AText, ADict, no_members, Node, PlainWorld}
-use Rattle.plain_machine.specs.World.{ref, is_text, datum_at, has_dict, push_node, with_node, next_node}
-use Rattle.plain_machine.specs.Known.{the_dict}
-use Rattle.plain_machine.specs.Sound.{TextKey, key_of, key_at}
-use Rattle.class_world.specs.Held.{Held}
-use Rattle.class_world.specs.Reading.{Reading, plain}
-use Rattle.class_world.specs.Sound.{KeysDiffer, Holds}
-use Rattle.class_world.proofs.Claims.{get-end}
-use Rattle.class_world.proofs.SoundWorld.{keys-stored}
-use Rattle.proto_call.specs.EvalForms.Say.{Pairs}
-use Rattle.plain_machine.specs.Known.{the_str}
-use Rattle.proto_call.specs.EvalForms.ClassForm.{AreSpelled}
+use Rattle.proto_call.proofs.Below.{ℕ, zero, suc, Bool, true, false, List, [], length, map, Option, Some, None, inl, inr, refl, sym, ap, ◌∙◌, subst, length-append, slice_get, is_some, option_map, option_and_then, IsDistinct, AllByRecursion, eqb-true, eq-eqb, PyObjectRef, PyStrInterned, is_same_name, AreNamesDistinct, keys_of, Text, Datum, AText, ADict, no_members, Node, PlainWorld, ref, is_text, datum_at, has_dict, push_node, with_node, next_node, the_dict, TextKey, key_of, key_at, Held, Reading, plain, KeysDiffer, Holds, get-end, keys-stored, Pairs, the_str, AreSpelled}
+use Rattle.std.proofs.Common.{◌≡◌, ◌+◌, ◌⊎◌, ◌∷◌, ◌++◌, true≢false}
+use Rattle.std.specs.Prelude.{cond}
 
 abbrev held : Option Node → Option Datum
 held o = option_map (λ (n : Node). n.datum) o

@@ -1,41 +1,12 @@
 -- Expressions whose operands are evaluated in order.
-use Rattle.std.proofs.Common.{◌≡◌, ℕ, zero, suc, ◌+◌, ◌<◌, ◌≤◌, List, [], ◌∷◌, ◌++◌, length, map, Some, None, Ok, Err, refl, sym, ap, ◌∙◌, subst, arith, length-append}
-use Rattle.std.specs.Prelude.{slice_get, Result, IfOk, Bool}
-use Rattle.std.specs.Global.{Vec}
-use Rattle.std.proofs.lemmas.Bool.{ltb-true, lt-ltb}
-use Rattle.std.proofs.lemmas.List.{map-append, length-map}
-use Rattle.std.proofs.lemmas.Option.{slice_get_within}
-use Rattle.py_node.specs.declared.refs.PyObjectRef.{PyObjectRef}
-use Rattle.py_node.specs.declared.refs.PyStrInterned.{PyStrInterned}
-use Rattle.py_node.specs.declared.memory.OutOfMemory.{OutOfMemory}
-use Rattle.py_node.specs.declared.raised.Raised.{Raised as Fault}
-use Rattle.py_node.specs.declared.task.Answer.{Answer}
-use Rattle.py_node.specs.declared.task.Answer.TheVariants.{Value, Done, Number, Truth, Maybe, Objects, Exhausted, Method, Start}
+use Rattle.proto_call.proofs.Below.{ℕ, zero, suc, List, [], length, map, Some, None, Ok, Err, refl, sym, ap, ◌∙◌, subst, arith, length-append, slice_get, Result, IfOk, Vec, ltb-true, lt-ltb, map-append, length-map, slice_get_within, PyObjectRef, PyStrInterned, OutOfMemory, Raised as Fault, Answer, Value, Done, Number, Truth, Maybe, Objects, Exhausted, Method, Start, Form, Text, Tree, trees_of, list_of, entry_trees, PlainWorld, EvalJob, DoEval, ToEval, Answered, Told, Said, Asks, Ends, Row, on_value, evaluate, Held, Reading, Reads, form_tree, entry_list, stored_entries, spelled, plain, ended_of, Holds, AllHold, IsName, AreNames, AreNodes, IsExpression, AreExpressions, HasForm, of_form, of_node_ref, of_option, expression-in, got-map, node-in, Step, Ask, End, World, Steps, EvalKept, Operands, Word, Kind, one_of, op_say, operand_trees, own_say, func_say, tuple_say, list_say, set_attr_say, del_attr_say, attr_say, called_say, if_say, seq_say, raise_say, class_say, entry_names, eval_say, two_of, answered, eval_stands, Continues, EndsRow, TakesAt, Takes, StepsAt, EndsSo, HasValues, IsOther, IsOwn, operands, operands_at, has_operand, evaluated_tree, args_of, keywords_of}
+use Rattle.std.proofs.Common.{◌≡◌, ◌+◌, ◌<◌, ◌≤◌, ◌∷◌, ◌++◌}
+use Rattle.std.specs.Prelude.{Bool}
 use Rattle.py_node.specs.declared.task.PyMethod.TheVariants as method
-use Rattle.py_node.specs.declared.payload.Form.{Form}
 use Rattle.py_node.specs.declared.payload.Form.TheVariants as form
-use Rattle.py_node.specs.Tree.{Text, Tree, trees_of, list_of, entry_trees}
-use Rattle.plain_machine.specs.Plain.{PlainWorld, EvalJob, DoEval, ToEval, Answered, Told, Said, Asks, Ends}
-use Rattle.plain_machine.specs.Row.{Row, on_value, evaluate}
-use Rattle.class_world.specs.Held.{Held}
-use Rattle.class_world.specs.Reading.{Reading, Reads, form_tree, entry_list, stored_entries, spelled, plain, ended_of}
-use Rattle.class_world.specs.Sound.{Holds, AllHold, IsName, AreNames, AreNodes, IsExpression, AreExpressions, HasForm, of_form, of_node_ref, of_option}
-use Rattle.class_world.proofs.Claims.{expression-in, got-map, node-in}
-use Rattle.py_node.specs.declared.task.Step.{Step}
-use Rattle.py_node.specs.declared.task.Step.TheVariants.{Ask, End}
 use Rattle.py_node.specs.declared.task.Task.TheVariants as task
 use Rattle.py_node.specs.declared.task.EvalTask.TheVariants as eval
-use Rattle.class_world.specs.declared.world.World.{World}
-use Rattle.class_world.specs.Rows.{Steps}
-use Rattle.proto_call.specs.declared.eval_forms.EvalKept.{EvalKept}
-use Rattle.proto_call.specs.declared.eval_forms.EvalKept.TheVariants.{Operands}
 use Rattle.proto_call.specs.declared.eval_forms.Own.TheVariants as own
-use Rattle.py_node.specs.declared.expr.Word.{Word}
-use Rattle.py_node.specs.declared.raised.Kind.{Kind}
-use Rattle.proto_call.specs.EvalForms.Words.{one_of, op_say}
-use Rattle.proto_call.specs.EvalForms.Say.{operand_trees, own_say, func_say, tuple_say, list_say, set_attr_say, del_attr_say, attr_say, called_say, if_say, seq_say, raise_say, class_say, entry_names, eval_say}
-use Rattle.plain_machine.specs.Args.{two_of}
-use Rattle.proto_call.specs.EvalForms.Rows.{answered, eval_stands, Continues, EndsRow, TakesAt, Takes, StepsAt, EndsSo, HasValues, IsOther, IsOwn, operands, operands_at, has_operand, evaluated_tree, args_of, keywords_of}
 
 pub list_of-trees_of : (ts : List Tree) → list_of (trees_of ts) ≡ ts
 list_of-trees_of [] = refl

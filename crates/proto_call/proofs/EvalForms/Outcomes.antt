@@ -1,23 +1,7 @@
 -- What is made of an answer, as the row that goes on says it.
-use Rattle.std.proofs.Common.{◌≡◌, [], ◌∷◌, ◌++◌, Option, Some, None, Ok, Err, refl, sym, ◌∙◌, subst}
-use Rattle.std.specs.Prelude.{Result, IfOk}
-use Rattle.py_node.specs.declared.memory.OutOfMemory.{OutOfMemory}
-use Rattle.py_node.specs.declared.raised.Raised.{Raised as Fault}
-use Rattle.py_node.specs.declared.task.Answer.{Answer}
-use Rattle.py_node.specs.declared.task.Step.{Step}
-use Rattle.py_node.specs.declared.task.Step.TheVariants.{Ask, End}
-use Rattle.py_node.specs.declared.task.Task.{Task}
-use Rattle.plain_machine.specs.Plain.{PlainWorld, PlainTask, Answered, Told, Ended}
-use Rattle.class_world.specs.Reading.{Reading, plain, task_of, ended_of}
-use Rattle.class_world.specs.Rows.{Steps}
-use Rattle.class_world.specs.declared.world.World.{World}
-use Rattle.proto_call.specs.declared.eval_forms.EvalKept.{EvalKept}
-use Rattle.proto_call.specs.declared.eval_forms.EvalKept.TheVariants.{Made}
-use Rattle.proto_call.specs.declared.eval_forms.outcome.Outcome.{Outcome}
+use Rattle.proto_call.proofs.Below.{[], Option, Some, None, Ok, Err, refl, sym, ◌∙◌, subst, Result, IfOk, OutOfMemory, Raised as Fault, Answer, Step, Ask, End, Task, PlainWorld, PlainTask, Answered, Told, Ended, Reading, plain, task_of, ended_of, Steps, World, EvalKept, Made, Outcome, asked, made, eval_say, EndsRow, Resumes, Takes, eval_stands}
+use Rattle.std.proofs.Common.{◌≡◌, ◌∷◌, ◌++◌}
 use Rattle.proto_call.specs.declared.eval_forms.outcome.Outcome.TheVariants as outcome
-use Rattle.proto_call.specs.EvalForms.Words.{asked, made}
-use Rattle.proto_call.specs.EvalForms.Say.{eval_say}
-use Rattle.proto_call.specs.EvalForms.Rows.{EndsRow, Resumes, Takes, eval_stands}
 
 -- the row that goes on makes this of an answer
 pub made-stands : (t : Reading) (o : Outcome) (u : PlainWorld) (r : Ended) (more : Told) → made u o r more ≡ eval_say u (eval_stands t (Made o)).task ((eval_stands t (Made o)).told ++ Answered r ∷ more)

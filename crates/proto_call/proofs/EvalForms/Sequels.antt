@@ -1,8 +1,6 @@
 -- The last value of some.
-use Rattle.std.proofs.Common.{◌≡◌, suc, ◌-◌, ◌≤◌, ◌<◌, List, [], ◌∷◌, length, slice_index_or, Some, refl, ap, sym, ◌∙◌, arith}
-use Rattle.std.specs.Prelude.{slice_get}
-use Rattle.py_node.specs.declared.refs.PyObjectRef.{PyObjectRef}
-use Rattle.proto_call.specs.EvalForms.Say.{last_or_none}
+use Rattle.proto_call.proofs.Below.{suc, List, [], length, slice_index_or, Some, refl, ap, sym, ◌∙◌, arith, slice_get, PyObjectRef, last_or_none}
+use Rattle.std.proofs.Common.{◌≡◌, ◌-◌, ◌≤◌, ◌<◌, ◌∷◌}
 
 pub last-is : (vs : List PyObjectRef) (v : PyObjectRef) → slice_get vs (length vs - 1) ≡ Some v → last_or_none vs ≡ v
 last-is [] v h = cc

@@ -1,20 +1,6 @@
 -- Keywords: names with values, none of which stands twice.
-use Rattle.std.proofs.Common.{◌≡◌, suc, ◌+◌, ◌<◌, ◌≤◌, Bool, true, false, cond, List, [], ◌∷◌, ◌++◌, length, map, filter, not, is_some, Option, Some, None, refl, sym, ap, ◌∙◌, subst, arith, length-append}
-use Rattle.std.proofs.lemmas.List.{length-map}
-use Rattle.py_node.specs.declared.known.Known.TheVariants.{Metaclass}
-use Rattle.py_node.specs.declared.refs.PyObjectRef.{PyObjectRef}
-use Rattle.py_node.specs.declared.refs.PyStrInterned.{PyStrInterned}
-use Rattle.py_node.specs.Attributes.{value_of, with_value, is_same_name}
-use Rattle.py_node.specs.Known.{known_text}
-use Rattle.py_node.specs.Tree.{Text}
-use Rattle.plain_machine.specs.Args.{filled}
-use Rattle.plain_machine.specs.Plain.{Bindings}
-use Rattle.plain_machine.specs.World.{is_text}
-use Rattle.class_world.specs.Held.{Held}
-use Rattle.class_world.specs.Reading.{Reading, bindings, spelled}
-use Rattle.class_world.specs.Sound.{AllHold, of_binding, of_each}
-use Rattle.class_world.proofs.Bound.{value-read}
-use Rattle.proto_call.specs.EvalForms.Say.{unrepeated, given_metaclass, other_keywords}
+use Rattle.proto_call.proofs.Below.{suc, Bool, true, false, cond, List, [], length, map, filter, not, Option, Some, None, refl, sym, ap, ◌∙◌, subst, arith, length-append, length-map, Metaclass, PyObjectRef, PyStrInterned, value_of, with_value, is_same_name, known_text, Text, filled, Bindings, is_text, Held, Reading, bindings, spelled, AllHold, of_binding, of_each, value-read, unrepeated, given_metaclass, other_keywords}
+use Rattle.std.proofs.Common.{◌≡◌, ◌+◌, ◌<◌, ◌≤◌, ◌∷◌, ◌++◌, is_some}
 
 abbrev Bound : Type 0
 Bound = List (PyStrInterned × PyObjectRef)

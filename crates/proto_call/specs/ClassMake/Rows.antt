@@ -1,25 +1,8 @@
 -- What the contracts of the rows of the creation of classes say.
-use Rattle.std.specs.Prelude.{◌≡◌, ℕ, List, [], ◌∷◌, ◌++◌, drop, Result, Ok}
-use Rattle.py_node.specs.declared.raised.Raised.{Raised as Fault}
-use Rattle.py_node.specs.declared.refs.PyObjectRef.{PyObjectRef}
-use Rattle.py_node.specs.declared.refs.PyStrInterned.{PyStrInterned}
-use Rattle.py_node.specs.declared.entry.TypeNative.{TypeNative}
+use Rattle.proto_call.specs.Below.{ℕ, List, [], drop, Result, Ok, Raised as Fault, PyObjectRef, PyStrInterned, TypeNative, TypeType, Answer, Value, ClassTask, Step, Ask, End, PlainWorld, Bindings, ClassJob, DoMakeClass, DoType, Answered, Chose, Made, ReadObjects, ReadNames, Ended, Told, Said, Asks, Ends, Row, value, Pending, fresh, ref, World, Reading, Reads, bindings, class_job, ended_of, plain, spelled, task_of, Group, Follows, Claim, IsClass, IsName, IsNode, Holding, of_binding, of_each}
+use Rattle.std.specs.Prelude.{◌≡◌, ◌∷◌, ◌++◌}
 use Rattle.py_node.specs.declared.entry.TypeNative.TheVariants.{New}
-use Rattle.py_node.specs.declared.built_in.BuiltIn.TheVariants.{TypeType}
-use Rattle.py_node.specs.declared.task.Answer.{Answer}
-use Rattle.py_node.specs.declared.task.Answer.TheVariants.{Value}
-use Rattle.py_node.specs.declared.task.ClassTask.{ClassTask}
-use Rattle.py_node.specs.declared.task.Step.{Step}
-use Rattle.py_node.specs.declared.task.Step.TheVariants.{Ask, End}
-use Rattle.plain_machine.specs.Plain.{PlainWorld, Bindings, ClassJob, DoMakeClass, DoType, Answered, Chose, Made, ReadObjects, ReadNames, Ended, Told, Said, Asks, Ends}
-use Rattle.plain_machine.specs.Row.{Row, value}
-use Rattle.plain_machine.specs.Rows.{Pending, fresh}
-use Rattle.plain_machine.specs.World.{ref}
-use Rattle.class_world.specs.declared.world.World.{World}
-use Rattle.class_world.specs.Reading.{Reading, Reads, bindings, class_job, ended_of, plain, spelled, task_of}
 use Rattle.class_world.specs.Rows as rows
-use Rattle.class_world.specs.Rows.{Group, Follows}
-use Rattle.class_world.specs.Sound.{Claim, IsClass, IsName, IsNode, Holding, of_binding, of_each}
 use Rattle.proto_call.specs.declared.class_make.ClassKept.{ClassKept}
 use Rattle.proto_call.specs.declared.class_make.ClassKept.TheVariants.{Pass, Native, NoClass, Binding, Calling, AfterBind, AfterHook}
 use Rattle.proto_call.specs.declared.class_make.tell.Telling.{Telling}

@@ -1,37 +1,13 @@
 -- What the rows of the creation of classes say.
-use Rattle.std.specs.Option.{option_or}
-use Rattle.std.specs.Prelude.{ℕ, ◌+◌, ◌-◌, Bool, false, cond, not, eqb, ◌&&◌, ◌||◌, List, [], ◌∷◌, ◌++◌, Option, Some, None, is_some, option_and_then, map, length, filter, Result, Ok, Err}
-use Rattle.py_node.specs.declared.refs.PyObjectRef.{PyObjectRef}
-use Rattle.py_node.specs.declared.raised.Cause.{Cause}
-use Rattle.py_node.specs.declared.raised.Cause.TheVariants.{ArgCount, BasesNotTypes, MetaclassConflict, MroEntries, NamespaceKey, NullInName, SelfType, SetNameCalled, SlotsType, TypeArgs, TypeArgTypes, UnsafeNew}
-use Rattle.py_node.specs.declared.entry.SlotId.TheVariants.{New}
-use Rattle.py_node.specs.declared.entry.NativeEntry.TheVariants.{Getter, Setter}
+use Rattle.proto_call.specs.Below.{option_or, ℕ, Bool, false, cond, not, eqb, List, [], Option, Some, None, is_some, option_and_then, map, length, filter, Result, Ok, Err, PyObjectRef, Cause, ArgCount, BasesNotTypes, MetaclassConflict, MroEntries, NamespaceKey, NullInName, SelfType, SetNameCalled, SlotsType, TypeArgs, TypeArgTypes, UnsafeNew, New, Getter, Setter, TypeNative, ObjectEx, value_of, with_value, Text, known_text, Class, found, found_past, is_sub, place_count, all_some, entry, any_has_dict, slots_bring, slot_members, heap_class, natives_of, refused_layout, refused_order, qualified, refused_name, Datum, AText, ATuple, AList, ADict, AClassMethod, AStaticMethod, AProperty, AGetSet, AMember, PlainWorld, Bindings, ClassJob, DoMakeClass, DoType, DoBind, DoCall, DoGetAttr, DoTypeCall, DoTypeGet, DoTypeSet, DoNew, ToAttribute, ToCall, ToClass, Answered, Chose, Made, Ended, Said, Asks, Ends, ref, is_text, datum_at, class_at, text_keys, with_node, next_node, with_new_class, with_own_attr, type_object, class_number, special_at, nearest_built_in, with_definer, the_object, the_type, the_str, the_tuple, the_list, the_function, the_getset, the_class_method, with_two, with_three, with_text, native_end, Row, start, ask, noting, read_names, read_objects, pass, end, value, fault, none, is_attribute_error, on_value, on_done, has_null}
+use Rattle.std.specs.Prelude.{◌+◌, ◌-◌, ◌&&◌, ◌||◌, ◌∷◌, ◌++◌}
 use Rattle.py_node.specs.declared.entry.Property.TheVariants as property
-use Rattle.py_node.specs.declared.entry.TypeNative.{TypeNative}
 use Rattle.py_node.specs.declared.entry.TypeNative.TheVariants as type
-use Rattle.py_node.specs.declared.payload.MemberKind.TheVariants.{ObjectEx}
 use Rattle.py_node.specs.declared.payload.MemberGetter.TheVariants as getter
 use Rattle.py_node.specs.declared.payload.MemberSetter.TheVariants as setter
-use Rattle.py_node.specs.Attributes.{value_of, with_value}
-use Rattle.py_node.specs.Tree.{Text}
 use Rattle.py_node.specs.declared.known.Known.TheVariants as known
-use Rattle.py_node.specs.Known.{known_text}
-use Rattle.class_model.specs.Class.{class_at as class_numbered, Class, found, found_past, is_sub}
-use Rattle.class_model.specs.Layout.{place_count}
-use Rattle.class_model.specs.Order.{all_some}
-use Rattle.class_model.specs.Slot.{entry}
-use Rattle.class_model.specs.Dict.{any_has_dict, slots_bring, slot_members, heap_class}
-use Rattle.class_model.specs.BuiltIn.{natives_of}
-use Rattle.class_table.specs.Refused.{refused_layout, refused_order}
-use Rattle.class_world.specs.NewHeap.{qualified, refused_name}
-use Rattle.plain_machine.specs.Plain.{Datum, AText, ATuple, AList, ADict, AClassMethod, AStaticMethod, AProperty, AGetSet, AMember, PlainWorld, Bindings, ClassJob, DoMakeClass, DoType, DoBind, DoCall, DoGetAttr, DoTypeCall, DoTypeGet, DoTypeSet, DoNew, ToAttribute, ToCall, ToClass, Answered, Chose, Made, Ended, Said, Asks, Ends}
-use Rattle.plain_machine.specs.World.{ref, is_text, datum_at, class_at, text_keys, with_node, next_node, with_new_class, with_own_attr}
-use Rattle.plain_machine.specs.Objects.{type_object, class_number, special_at, nearest_built_in, with_definer}
-use Rattle.plain_machine.specs.Known.{the_object, the_type, the_str, the_tuple, the_list, the_function, the_getset, the_class_method}
-use Rattle.plain_machine.specs.Takes.{with_two, with_three, with_text, native_end}
+use Rattle.class_model.specs.Class.{class_at as class_numbered}
 use Rattle.proto_call.specs.ClassMake.TypeNatives.{type_native_say}
-use Rattle.plain_machine.specs.Row.{Row, start, ask, noting, read_names, read_objects, pass, end, value, fault, none, is_attribute_error, on_value, on_done}
-use Rattle.row_kit.specs.Questions.{has_null}
 
 -- the entries of a dict
 abbrev pub Entries : Type 0

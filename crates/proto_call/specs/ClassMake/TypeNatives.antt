@@ -1,25 +1,8 @@
 -- The natives of `type` that ask no task.
-use Rattle.std.specs.Prelude.{List, [], map, ℕ, ◌++◌, codes, Option, Some, None, Result, cond, length, nat_le}
-use Rattle.py_node.specs.declared.refs.PyObjectRef.{PyObjectRef}
-use Rattle.class_model.specs.Collect.{all_attributes}
-use Rattle.plain_machine.specs.Plain.{AList, PlainWorld, Bindings, Said, ADict, Ends}
-use Rattle.plain_machine.specs.World.{is_text, datum_at, ref}
-use Rattle.plain_machine.specs.Known.{the_list, the_dict}
+use Rattle.proto_call.specs.Below.{List, [], map, ℕ, codes, Option, Some, None, Result, cond, length, nat_le, PyObjectRef, all_attributes, AList, PlainWorld, Bindings, Said, ADict, Ends, is_text, datum_at, ref, the_list, the_dict, sized_made, in_length, object_made, text_made, with_lone_class, needed, with_class, keyed, or_no_attributes, Raised as Fault, Text, name_at, qualname, module_of, in_module, or_nothing, ArgCount, TypeNative, is_sub, lin, subclasses, class_number, is_instance, value, truth, not_implemented, fault, elsewhere, with_two}
+use Rattle.std.specs.Prelude.{◌++◌}
 use Rattle.plain_machine.specs.Dicts.{Entries}
-use Rattle.row_kit.specs.Say.{sized_made, in_length, object_made, text_made}
-use Rattle.row_kit.specs.TakeClasses.{with_lone_class, needed, with_class}
-use Rattle.row_kit.specs.ClassAttributes.{keyed, or_no_attributes}
-use Rattle.py_node.specs.declared.raised.Raised.{Raised as Fault}
-use Rattle.py_node.specs.Tree.{Text}
-use Rattle.plain_machine.specs.ClassText.{name_at}
-use Rattle.row_kit.specs.ClassNames.{qualname, module_of, in_module, or_nothing}
-use Rattle.py_node.specs.declared.raised.Cause.TheVariants.{ArgCount}
-use Rattle.py_node.specs.declared.entry.TypeNative.{TypeNative}
 use Rattle.py_node.specs.declared.entry.TypeNative.TheVariants as type
-use Rattle.class_model.specs.Class.{is_sub, lin, subclasses}
-use Rattle.plain_machine.specs.Objects.{class_number, is_instance}
-use Rattle.plain_machine.specs.Row.{value, truth, not_implemented, fault, elsewhere}
-use Rattle.plain_machine.specs.Takes.{with_two}
 
 abbrev pub keys_made : PlainWorld × Entries → Said
 keys_made s = sized_made s.0 the_list (AList (map (λ e. e.0) s.1))

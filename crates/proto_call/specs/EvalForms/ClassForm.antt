@@ -1,12 +1,6 @@
 -- The class form by the numbers of names.
-use Rattle.std.specs.Prelude.{◌≡◌, ℕ, List, map, Some, slice_get}
-use Rattle.py_node.specs.declared.refs.PyObjectRef.{PyObjectRef}
-use Rattle.py_node.specs.declared.refs.PyStrInterned.{PyStrInterned}
-use Rattle.class_world.specs.Held.{Held}
-use Rattle.class_world.specs.Sound.{Holds, AreNodes}
-use Rattle.plain_machine.specs.Plain.{AText, PlainWorld}
-use Rattle.plain_machine.specs.World.{datum_at}
-use Rattle.class_world.specs.Reading.{Reading}
+use Rattle.proto_call.specs.Below.{ℕ, List, map, Some, slice_get, PyObjectRef, PyStrInterned, Held, Holds, AreNodes, AText, PlainWorld, datum_at, Reading}
+use Rattle.std.specs.Prelude.{◌≡◌}
 use Rattle.proto_call.specs.EvalForms.Say.{Pairs}
 
 -- keys and values are objects

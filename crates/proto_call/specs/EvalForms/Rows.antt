@@ -1,30 +1,10 @@
 -- What the contracts of the rows of expressions say.
-use Rattle.std.specs.Prelude.{◌≡◌, ℕ, zero, suc, ltb, Bool, List, [], ◌∷◌, ◌++◌, map, length, Option, Some, None, Result, Ok, slice_get}
-use Rattle.py_node.specs.declared.raised.Raised.{Raised as Fault}
-use Rattle.py_node.specs.declared.refs.PyObjectRef.{PyObjectRef}
-use Rattle.py_node.specs.declared.expr.Word.TheVariants.{Binary, Sequence, Object}
-use Rattle.py_node.specs.declared.expr.SequenceWord.{SequenceWord}
+use Rattle.proto_call.specs.Below.{ℕ, zero, suc, ltb, Bool, List, [], map, length, Option, Some, None, Result, Ok, slice_get, Raised as Fault, PyObjectRef, Binary, Sequence, Object, SequenceWord, Add, Answer, Value, EvalTask, PyStrInterned, Step, Ask, End, Form, literal_of, Tree, TAttr, TCall, TDelAttr, TDict, TIf, TOp, KeyedTrees, no_keyed, Trees, tree, no_trees, Entries, no_entries, TConst, LNone, Bindings, PlainWorld, EvalJob, DoEval, DoInvoke, DoCall, PlainTask, ToAttribute, ToCall, Ended, Fact, Answered, Told, Said, Asks, Ends, Row, value, Pending, World, Reading, Reads, plain, eval_job, method_of, method_target, method_func, task_of, ended_of, Group, Goes, Steps, of_method, Claim, IsNode, AreNodes, IsExpression, HasForm, of_pairs}
+use Rattle.std.specs.Prelude.{◌≡◌, ◌∷◌, ◌++◌}
 use Rattle.py_node.specs.declared.expr.SequenceWord.TheVariants as sequence
 use Rattle.py_node.specs.declared.expr.ObjectWord.TheVariants as object
-use Rattle.py_node.specs.declared.task.PyNumberBinaryOp.TheVariants.{Add}
-use Rattle.py_node.specs.declared.task.Answer.{Answer}
-use Rattle.py_node.specs.declared.task.Answer.TheVariants.{Value}
-use Rattle.py_node.specs.declared.task.EvalTask.{EvalTask}
-use Rattle.py_node.specs.declared.refs.PyStrInterned.{PyStrInterned}
-use Rattle.py_node.specs.declared.task.Step.{Step}
-use Rattle.py_node.specs.declared.task.Step.TheVariants.{Ask, End}
-use Rattle.py_node.specs.declared.payload.Form.{Form}
 use Rattle.py_node.specs.declared.payload.Form.TheVariants as form
-use Rattle.py_node.specs.Tree.{literal_of, Tree, TAttr, TCall, TDelAttr, TDict, TIf, TOp, KeyedTrees, no_keyed, Trees, tree, no_trees, Entries, no_entries, TConst, LNone}
-use Rattle.plain_machine.specs.Plain.{Bindings, PlainWorld, EvalJob, DoEval, DoInvoke, DoCall, PlainTask, ToAttribute, ToCall, Ended, Fact, Answered, Told, Said, Asks, Ends}
-use Rattle.plain_machine.specs.Row.{Row, value}
-use Rattle.plain_machine.specs.Rows.{Pending}
-use Rattle.class_world.specs.declared.world.World.{World}
-use Rattle.class_world.specs.Reading.{Reading, Reads, plain, eval_job, method_of, method_target, method_func, task_of, ended_of}
 use Rattle.class_world.specs.Rows as rows
-use Rattle.class_world.specs.Rows.{Group, Goes, Steps}
-use Rattle.class_world.specs.Claims.{of_method}
-use Rattle.class_world.specs.Sound.{Claim, IsNode, AreNodes, IsExpression, HasForm}
 use Rattle.proto_call.specs.declared.eval_forms.EvalKept.{EvalKept}
 use Rattle.proto_call.specs.declared.eval_forms.EvalKept.TheVariants.{Pass, Made, Count, Start, Stop, Branch, Operands, Load, Arguments, Key, Value as OfKey}
 use Rattle.proto_call.specs.declared.eval_forms.call_form.Called.{Called}
@@ -37,7 +17,6 @@ use Rattle.proto_call.specs.declared.eval_forms.outcome.Outcome.{Outcome}
 use Rattle.proto_call.specs.declared.eval_forms.outcome.Outcome.TheVariants as outcome
 use Rattle.proto_call.specs.declared.eval_forms.Own.{Own}
 use Rattle.proto_call.specs.declared.eval_forms.Own.TheVariants as own
-use Rattle.class_world.specs.Keyed.{of_pairs}
 use Rattle.proto_call.specs.EvalForms.Say.{Pairs, callee_tree, eval_say}
 
 -- the values of the operands so far, as they were learnt

@@ -1,25 +1,9 @@
 -- What the rows of expressions say.
-use Rattle.std.specs.Prelude.{ℕ, Bool, cond, if◌then◌else◌, bytes_eq, codes, List, [], ◌∷◌, ◌++◌, Option, Some, None, option_map, Ok, Err, is_some, true, false, not, filter, length, take, drop, slice_get}
-use Rattle.std.specs.List.{find}
-use Rattle.py_node.specs.declared.refs.PyObjectRef.{PyObjectRef}
-use Rattle.py_node.specs.declared.built_in.BuiltIn.{BuiltIn}
+use Rattle.proto_call.specs.Below.{ℕ, Bool, cond, bytes_eq, codes, List, [], Option, Some, None, option_map, Ok, Err, is_some, true, false, not, filter, length, take, drop, slice_get, find, PyObjectRef, BuiltIn, Metaclass, Kind, ArgCount, Body, KeyType, RepeatedKeyword, Unbound, value_of, place_of, known_text, Text, Tree, TConst, TName, TBind, TTuple, TList, TDict, TFunc, TAttr, TSetAttr, TDelAttr, TCall, TOp, TIf, TSeq, TRaise, TClass, KeyedTrees, no_keyed, Trees, Entries, no_entries, Literal, LNone, LFalse, LTrue, LInt, LText, list_of, entry_trees, ANumber, AText, ATuple, AList, ADict, AFunction, PlainWorld, Bindings, EvalJob, DoEval, ToEval, DoGetAttr, DoSetAttr, DoLoadMethod, DoInvoke, DoCall, AsFunction, AsAttribute, Ended, PlainTask, ToAttribute, ToCall, ToProtocol, DoIsTrue, Said, ref, is_text, variable, or_else_var, with_binding, with_node, next_node, two_of, filled, the_type, the_int, the_str, the_tuple, the_list, the_dict, the_function, entries_from, class_object, type_object, key_at, Row, start, ask, pass, end, value, none, fault, on_value, on_truth, on_done, make, limited, truth, not_implemented, evaluate}
+use Rattle.std.specs.Prelude.{if◌then◌else◌, ◌∷◌, ◌++◌}
 use Rattle.py_node.specs.declared.built_in.BuiltIn.TheVariants as built_in
-use Rattle.py_node.specs.declared.known.Known.TheVariants.{Metaclass}
-use Rattle.py_node.specs.declared.raised.Kind.{Kind}
-use Rattle.py_node.specs.declared.raised.Cause.TheVariants.{ArgCount, Body, KeyType, RepeatedKeyword, Unbound}
-use Rattle.py_node.specs.Attributes.{value_of}
-use Rattle.py_node.specs.BuiltIns.{place_of}
-use Rattle.py_node.specs.Known.{known_text}
-use Rattle.py_node.specs.Tree.{Text, Tree, TConst, TName, TBind, TTuple, TList, TDict, TFunc, TAttr, TSetAttr, TDelAttr, TCall, TOp, TIf, TSeq, TRaise, TClass, KeyedTrees, no_keyed, keyed as keyed_tree, Trees, Entries, no_entries, entry, Literal, LNone, LFalse, LTrue, LInt, LText, list_of, entry_trees}
-use Rattle.plain_machine.specs.Plain.{ANumber, AText, ATuple, AList, ADict, AFunction, PlainWorld, Bindings, EvalJob, DoEval, ToEval, DoGetAttr, DoSetAttr, DoLoadMethod, DoInvoke, DoCall, AsFunction, AsAttribute, Ended, PlainTask, ToAttribute, ToCall, ToProtocol, DoIsTrue, Said}
-use Rattle.plain_machine.specs.World.{ref, is_text, variable, or_else_var, with_binding, with_node, next_node}
-use Rattle.plain_machine.specs.Args.{two_of, filled}
+use Rattle.py_node.specs.Tree.{keyed as keyed_tree, entry}
 use Rattle.proto_call.specs.EvalForms.Words.{one_of, op_say}
-use Rattle.plain_machine.specs.Known.{the_type, the_int, the_str, the_tuple, the_list, the_dict, the_function}
-use Rattle.plain_machine.specs.Dicts.{entries_from}
-use Rattle.plain_machine.specs.Objects.{class_object, type_object}
-use Rattle.plain_machine.specs.Sound.{key_at}
-use Rattle.plain_machine.specs.Row.{Row, start, ask, pass, end, value, none, fault, on_value, on_truth, on_done, make, limited, truth, not_implemented, evaluate}
 
 -- a constant is a fixed object, or a new one
 abbrev pub const_say : PlainWorld → Literal → Row

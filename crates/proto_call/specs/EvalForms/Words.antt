@@ -1,26 +1,10 @@
 -- What the words of operations say of the values of their operands.
-use Rattle.std.specs.Prelude.{ℤ, cond, not, eqb, is_some, List, [], ◌∷◌, Option, Some, None, Ok}
-use Rattle.py_node.specs.declared.refs.PyObjectRef.{PyObjectRef}
-use Rattle.py_node.specs.declared.raised.Cause.TheVariants.{ArgCount, IndexRange, IterEnd, SelfType}
-use Rattle.py_node.specs.declared.entry.SlotId.TheVariants.{Call}
-use Rattle.py_node.specs.declared.expr.Word.{Word}
+use Rattle.proto_call.specs.Below.{ℤ, cond, not, eqb, is_some, List, [], Option, Some, None, Ok, PyObjectRef, ArgCount, IndexRange, IterEnd, SelfType, Call, Word, SequenceWord, ObjectWord, PyNumberBinaryOp, two_of, the_int, the_list, the_tuple, type_object, ANumber, ATuple, AList, PlainWorld, PlainTask, ToAttribute, ToOperator, ToCompare, ToProtocol, ToObject, DoHasAttr, AsValue, AsObjects, AsExhausted, Ended, Said, Ends, DoAdd, DoBinary, DoInplace, DoInplaceAdd, DoInplaceMul, DoInplacePower, DoInplaceConcat, DoInplaceRepeat, DoConcat, DoMul, DoPower, DoRepeat, DoUnary, DoCompare, DoIsTrue, DoIndex, DoWhole, DoLength, DoHint, DoGetItem, DoSetItem, DoDelItem, DoGetSlice, DoSetSlice, DoDelSlice, DoGetIter, DoNext, DoCollect, DoContains, DoCount, DoFind, DoKeys, DoValues, DoItems, DoHash, DoRepr, DoStr, DoFormat, DoDir, DoIsInstance, DoIsSubclass, Row, start, ask, pass, end, value, none, fault, on_truth, on_number, fits_index, on_done, make, limited, truth, with_text, datum_at, number_of, slot_at}
+use Rattle.std.specs.Prelude.{◌∷◌}
 use Rattle.py_node.specs.declared.expr.Word.TheVariants as word
-use Rattle.py_node.specs.declared.expr.SequenceWord.{SequenceWord}
 use Rattle.py_node.specs.declared.expr.SequenceWord.TheVariants as sequence
-use Rattle.py_node.specs.declared.expr.ObjectWord.{ObjectWord}
 use Rattle.py_node.specs.declared.expr.ObjectWord.TheVariants as object
-use Rattle.py_node.specs.declared.task.PyNumberBinaryOp.{PyNumberBinaryOp}
 use Rattle.py_node.specs.declared.task.PyNumberBinaryOp.TheVariants as op
-use Rattle.plain_machine.specs.Args.{two_of}
-use Rattle.plain_machine.specs.Known.{the_int, the_list, the_tuple}
-use Rattle.plain_machine.specs.Objects.{type_object}
-use Rattle.plain_machine.specs.Plain.{ANumber, ATuple, AList, PlainWorld, PlainTask, ToAttribute, ToOperator, ToCompare, ToProtocol, ToObject, DoHasAttr, AsValue, AsObjects, AsExhausted, Ended, Said, Ends}
-use Rattle.plain_machine.specs.Plain.{DoAdd, DoBinary, DoInplace, DoInplaceAdd, DoInplaceMul, DoInplacePower, DoInplaceConcat, DoInplaceRepeat, DoConcat, DoMul, DoPower, DoRepeat, DoUnary, DoCompare}
-use Rattle.plain_machine.specs.Plain.{DoIsTrue, DoIndex, DoWhole, DoLength, DoHint, DoGetItem, DoSetItem, DoDelItem, DoGetSlice, DoSetSlice, DoDelSlice, DoGetIter, DoNext, DoCollect, DoContains, DoCount, DoFind, DoKeys, DoValues, DoItems}
-use Rattle.plain_machine.specs.Plain.{DoHash, DoRepr, DoStr, DoFormat, DoDir, DoIsInstance, DoIsSubclass}
-use Rattle.plain_machine.specs.Row.{Row, start, ask, pass, end, value, none, fault, on_truth, on_number, fits_index, on_done, make, limited, truth}
-use Rattle.plain_machine.specs.Takes.{with_text}
-use Rattle.plain_machine.specs.World.{datum_at, number_of, slot_at}
 use Rattle.proto_call.specs.declared.eval_forms.outcome.Outcome.{Outcome}
 use Rattle.proto_call.specs.declared.eval_forms.outcome.Outcome.TheVariants as outcome
 use Rattle.proto_call.specs.declared.eval_forms.manner.Manner.{Manner}

@@ -1,15 +1,8 @@
 //! The attributes of a class to be, and what its creation adds to them.
 
-ghost use Rattle.std.specs.Prelude.{◌≡◌, None, ◌&&◌, not, is_some, IfOk, IfSome};
-ghost use Rattle.py_node.specs.Attributes.{value_of, is_same_name};
-ghost use Rattle.py_node.specs.Known.{known_text};
-ghost use Rattle.class_table.specs.Keys.{numbers};
-ghost use Rattle.class_world.specs.NewHeap.{slot_texts};
-ghost use Rattle.plain_machine.specs.World.{class_at};
-ghost use Rattle.class_world.specs.Reading.{Reading, Reads, bindings, datum, plain};
-ghost use Rattle.class_world.specs.Sound.{IsNode, IsName, IsClass, IsOf, home_of, class_in, Holds, AllHold, Grows, of_binding, of_each, of_payload};
+ghost use Rattle.proto_call.specs.Below.{None, not, is_some, IfOk, IfSome, value_of, is_same_name, known_text, numbers, slot_texts, class_at, Reading, Reads, bindings, datum, plain, IsNode, IsName, IsClass, IsOf, home_of, class_in, Holds, AllHold, Grows, of_binding, of_each, of_payload, the_function};
+ghost use Rattle.std.specs.Prelude.{◌≡◌, ◌&&◌};
 ghost use Rattle.proto_call.specs.ClassMake.Say.{has_name, is_class, put, give, wrap_value, wrap, qualify, unhash, give_dict, completed, dicted};
-ghost use Rattle.plain_machine.specs.Known.{the_function};
 ghost use Rattle.proto_call.specs.ClassMake.Rows.{Becomes};
 
 use class_world::{Fixed, World};

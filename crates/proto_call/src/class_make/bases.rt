@@ -1,19 +1,8 @@
 //! The bases of a class to be, its metaclass, and its namespace.
 
-ghost use Rattle.std.specs.Prelude.{◌≡◌, ◌&&◌, not, eqb, is_some, [], ◌∷◌, map, option_map, string_bytes, Err, None, Ok, Some, IfErr, IfOk, IfSome};
-ghost use Rattle.py_node.specs.declared.entry.SlotId.TheVariants.{New};
-ghost use Rattle.py_node.specs.declared.built_in.BuiltIn.TheVariants.{TypeType};
+ghost use Rattle.proto_call.specs.Below.{not, eqb, is_some, [], map, option_map, string_bytes, Err, None, Ok, Some, IfErr, IfOk, IfSome, New, TypeType, known_text, natives_of, entry, numbers, refused_layout, Asks, Chose, DoGetAttr, ToAttribute, text_keys, of_args, of_step, Leaves, Reading, Reads, bindings, plain, IsNode, AreNodes, IsClass, IsOf, Holds, AllHold, of_binding, of_class_ref, of_each, of_option};
+ghost use Rattle.std.specs.Prelude.{◌≡◌, ◌&&◌, ◌∷◌};
 ghost use Rattle.py_node.specs.declared.known.Known.TheVariants.{MroEntries};
-ghost use Rattle.py_node.specs.Known.{known_text};
-ghost use Rattle.class_model.specs.BuiltIn.{natives_of};
-ghost use Rattle.class_model.specs.Slot.{entry};
-ghost use Rattle.class_table.specs.Keys.{numbers};
-ghost use Rattle.class_table.specs.Refused.{refused_layout};
-ghost use Rattle.plain_machine.specs.Plain.{Asks, Chose, DoGetAttr, ToAttribute};
-ghost use Rattle.plain_machine.specs.World.{text_keys};
-ghost use Rattle.class_world.specs.Claims.{of_args, of_step, Leaves};
-ghost use Rattle.class_world.specs.Reading.{Reading, Reads, bindings, plain};
-ghost use Rattle.class_world.specs.Sound.{IsNode, AreNodes, IsClass, IsOf, Holds, AllHold, of_binding, of_class_ref, of_each, of_option};
 ghost use Rattle.proto_call.specs.ClassMake.Say.{by_bases, by_winner, classes_of, derived, on_bases, with_namespace, winner};
 ghost use Rattle.proto_call.specs.ClassMake.Rows.{Makes, of_class_kept, of_class_node};
 

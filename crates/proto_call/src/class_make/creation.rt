@@ -1,13 +1,7 @@
 //! A class that is made as planned.
 
-ghost use Rattle.std.specs.Prelude.{◌≡◌, string_bytes, None, IfOk};
-ghost use Rattle.py_node.specs.declared.built_in.BuiltIn.TheVariants.{TypeType};
-ghost use Rattle.class_table.specs.Keys.{numbers};
-ghost use Rattle.class_table.specs.Refused.{refused_layout};
-ghost use Rattle.class_world.specs.Claims.{Leaves};
-ghost use Rattle.class_world.specs.NewHeap.{slot_texts, of_slots};
-ghost use Rattle.class_world.specs.Reading.{Reading, Reads, bindings, plain};
-ghost use Rattle.class_world.specs.Sound.{IsNode, IsClass, IsOf, Holds, AllHold, of_binding, of_class_ref, of_each};
+ghost use Rattle.proto_call.specs.Below.{string_bytes, None, IfOk, TypeType, numbers, refused_layout, Leaves, slot_texts, of_slots, Reading, Reads, bindings, plain, IsNode, IsClass, IsOf, Holds, AllHold, of_binding, of_class_ref, of_each};
+ghost use Rattle.std.specs.Prelude.{◌≡◌};
 ghost use Rattle.proto_call.specs.ClassMake.Say.{values_of, names_in, made, made_in, with_names, with_slots};
 ghost use Rattle.proto_call.specs.ClassMake.Rows.{Makes, of_class_kept};
 

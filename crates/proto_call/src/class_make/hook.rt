@@ -1,12 +1,8 @@
 //! The hook that tells the classes past a new one of it.
 
-ghost use Rattle.std.specs.Prelude.{◌≡◌, filter, not, Ok, IfOk, IfSome};
+ghost use Rattle.proto_call.specs.Below.{filter, not, Ok, IfOk, IfSome, is_same_name, ref, of_ended, of_step, Leaves, Reading, bindings, plain, IsNode, IsClass, Holds, AllHold, of_binding, of_each};
+ghost use Rattle.std.specs.Prelude.{◌≡◌};
 ghost use Rattle.py_node.specs.declared.task.Answer.TheVariants as answer;
-ghost use Rattle.py_node.specs.Attributes.{is_same_name};
-ghost use Rattle.plain_machine.specs.World.{ref};
-ghost use Rattle.class_world.specs.Claims.{of_ended, of_step, Leaves};
-ghost use Rattle.class_world.specs.Reading.{Reading, bindings, plain};
-ghost use Rattle.class_world.specs.Sound.{IsNode, IsClass, Holds, AllHold, of_binding, of_each};
 ghost use Rattle.proto_call.specs.ClassMake.Say.{init_subclass};
 ghost use Rattle.proto_call.specs.ClassMake.Rows.{Resumes, Takes, of_class_kept};
 

@@ -1,10 +1,8 @@
 //! What is so of the members of classes, and is the result of no call.
 
-ghost use Rattle.std.specs.Prelude.{◌≡◌, ◌<◌, ◌+◌, ℕ, length, Some};
-ghost use Rattle.py_node.specs.Tree.{Text};
-ghost use Rattle.class_model.specs.Class.{Class, class_at};
-ghost use Rattle.class_model.specs.Layout.{first_place, place_at, solid};
-ghost use Rattle.class_world.specs.Reading.{Reading, plain};
+ghost use Rattle.proto_call.specs.Below.{ℕ, length, Some, Text, Class, first_place, place_at, solid, Reading, plain};
+ghost use Rattle.std.specs.Prelude.{◌≡◌, ◌<◌, ◌+◌};
+ghost use Rattle.class_model.specs.Class.{class_at};
 ghost use Rattle.proto_call.specs.ClassMake.Say.{places_from};
 
 use class_world::World;

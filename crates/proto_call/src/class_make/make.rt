@@ -1,13 +1,8 @@
 //! The making of a class from a name, a tuple of bases and a namespace.
 
-ghost use Rattle.std.specs.Prelude.{◌≡◌, eqb, map, option_map, string_bytes, IfOk, IfSome};
-ghost use Rattle.py_node.specs.declared.built_in.BuiltIn.TheVariants.{TypeType};
-ghost use Rattle.class_world.specs.Claims.{of_class_task, of_args, of_ended, of_step, Leaves};
-ghost use Rattle.class_world.specs.Reading.{bindings};
-ghost use Rattle.class_world.specs.Sound.{IsNode, AreNodes, IsClass, IsOf, Holds, AllHold};
+ghost use Rattle.proto_call.specs.Below.{eqb, map, option_map, string_bytes, IfOk, IfSome, TypeType, of_class_task, of_args, of_ended, of_step, Leaves, bindings, IsNode, AreNodes, IsClass, IsOf, Holds, AllHold, has_null, the_type};
+ghost use Rattle.std.specs.Prelude.{◌≡◌};
 ghost use Rattle.proto_call.specs.ClassMake.Say.{by_one, by_parts, from_three, one_of, three_of};
-ghost use Rattle.row_kit.specs.Questions.{has_null};
-ghost use Rattle.plain_machine.specs.Known.{the_type};
 ghost use Rattle.proto_call.specs.ClassMake.Rows.{Begins, Resumes, Makes, of_class_kept};
 ghost use Rattle.py_node.specs.declared.task.ClassTask.TheVariants as class_task;
 

@@ -1,11 +1,8 @@
 //! What a class that was made gets: the descriptors of its members, and the functions that it defines.
 
-ghost use Rattle.std.specs.Prelude.{◌≡◌, ℕ, ◌+◌, ◌<◌, ◌≤◌, length, map, Some, IfSome, OnOk};
+ghost use Rattle.proto_call.specs.Below.{ℕ, length, map, Some, IfSome, OnOk, member_count, datum_at, Reading, Reads, plain, spelled, IsNode, AreNodes, IsClass, IsName, AreNames, IsOffset, Holds, Grows};
+ghost use Rattle.std.specs.Prelude.{◌≡◌, ◌+◌, ◌<◌, ◌≤◌};
 ghost use Rattle.class_model.specs.Class.{class_at};
-ghost use Rattle.class_model.specs.Layout.{member_count};
-ghost use Rattle.plain_machine.specs.World.{datum_at};
-ghost use Rattle.class_world.specs.Reading.{Reading, Reads, plain, spelled};
-ghost use Rattle.class_world.specs.Sound.{IsNode, AreNodes, IsClass, IsName, AreNames, IsOffset, Holds, Grows};
 ghost use Rattle.proto_call.specs.ClassMake.Say.{defined, functions_of, places_from, put_member, there, with_functions, with_member, with_members, with_own_members};
 
 use class_world::World;

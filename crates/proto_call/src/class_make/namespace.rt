@@ -1,9 +1,7 @@
 //! The parts that a class is made from: a name, a tuple of bases and a namespace.
 
-ghost use Rattle.std.specs.Prelude.{◌≡◌, map, option_map, string_bytes, IfOk, IfSome};
-ghost use Rattle.plain_machine.specs.World.{datum_at};
-ghost use Rattle.class_world.specs.Reading.{Reading, Reads, bindings, plain};
-ghost use Rattle.class_world.specs.Sound.{IsNode, AreNodes, Holds, AllHold, Grows, of_binding, of_each};
+ghost use Rattle.proto_call.specs.Below.{map, option_map, string_bytes, IfOk, IfSome, datum_at, Reading, Reads, bindings, plain, IsNode, AreNodes, Holds, AllHold, Grows, of_binding, of_each};
+ghost use Rattle.std.specs.Prelude.{◌≡◌};
 ghost use Rattle.proto_call.specs.ClassMake.Say.{text_of, tuple_of, dict_of, named, namespace};
 
 use class_world::World;

@@ -1,10 +1,7 @@
 //! The names that `__slots__` gives.
 
-ghost use Rattle.std.specs.Prelude.{◌≡◌, map, option_map, IfOk, IfSome};
-ghost use Rattle.py_node.specs.BuiltIns.{place_of};
-ghost use Rattle.plain_machine.specs.World.{class_at, datum_at};
-ghost use Rattle.class_world.specs.Reading.{Reading, Reads, plain, spelled};
-ghost use Rattle.class_world.specs.Sound.{IsNode, AreNodes, IsName, AreNames, Holds, Grows};
+ghost use Rattle.proto_call.specs.Below.{map, option_map, IfOk, IfSome, place_of, class_at, datum_at, Reading, Reads, plain, spelled, IsNode, AreNodes, IsName, AreNames, Holds, Grows};
+ghost use Rattle.std.specs.Prelude.{◌≡◌};
 ghost use Rattle.proto_call.specs.ClassMake.Say.{is_class, names_in, slots_in, text_of, texts_of};
 
 use crate::class_make::namespace::text_at;

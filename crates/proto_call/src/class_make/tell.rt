@@ -1,12 +1,9 @@
 //! How a class that was made is told of: to its values, and then to the classes past it.
 
-ghost use Rattle.std.specs.Prelude.{◌≡◌, ◌++◌, drop, slice_get, Ok, IfErr, IfOk};
-ghost use Rattle.class_world.specs.Claims.{of_ended, Leaves};
-ghost use Rattle.class_world.specs.Reading.{Reading, Reads, bindings, plain};
-ghost use Rattle.class_world.specs.Sound.{IsClass, IsName, Holds, AllHold, of_binding, of_each};
+ghost use Rattle.proto_call.specs.Below.{drop, slice_get, Ok, IfErr, IfOk, of_ended, Leaves, Reading, Reads, bindings, plain, IsClass, IsName, Holds, AllHold, of_binding, of_each, ref};
+ghost use Rattle.std.specs.Prelude.{◌≡◌, ◌++◌};
 ghost use Rattle.proto_call.specs.ClassMake.Say.{bind_hooks, call_hooks, init_subclass, own_values, tell};
 ghost use Rattle.proto_call.specs.ClassMake.Rows.{IsOther, Resumes, Takes, of_class_kept, of_telling};
-ghost use Rattle.plain_machine.specs.World.{ref};
 
 use crate::class_make::ClassKept;
 use crate::class_make::hook::init_subclass;

@@ -1,12 +1,8 @@
 //! The natives of `type` that read and set attributes.
 #![tactic(auto, using(class_world::proofs::Items::item_holds), unfolding(crate::specs::ClassMake::Say::class_job_say))]
 
-ghost use Rattle.std.specs.Prelude.{◌≡◌, ℕ, Err, IfErr, IfOk};
-ghost use Rattle.py_node.specs.Faults.{raised};
-ghost use Rattle.plain_machine.specs.Plain.{Said, Ends};
-ghost use Rattle.class_world.specs.Claims.{of_args, of_ended, of_step, Leaves};
-ghost use Rattle.class_world.specs.Reading.{Reading, bindings, plain};
-ghost use Rattle.class_world.specs.Sound.{AreNodes, IsClass, Holds, AllHold};
+ghost use Rattle.proto_call.specs.Below.{ℕ, Err, IfErr, IfOk, raised, Said, Ends, of_args, of_ended, of_step, Leaves, Reading, bindings, plain, AreNodes, IsClass, Holds, AllHold};
+ghost use Rattle.std.specs.Prelude.{◌≡◌};
 ghost use Rattle.proto_call.specs.ClassMake.Say.{with_self, type_get_attribute, type_set_attr, type_del_attr};
 ghost use Rattle.proto_call.specs.ClassMake.Rows.{Resumes, Types, of_class_kept};
 

@@ -1,16 +1,9 @@
 //! The natives of `type` that ask no task.
 #![tactic(auto, using(class_world::proofs::Items::item_holds))]
 
-ghost use Rattle.std.specs.Prelude.{◌≡◌, map, IfOk, string_bytes, ℕ, Err, IfErr};
-ghost use Rattle.class_world.specs.Reading.{bindings, Reading, Reads, plain};
-ghost use Rattle.class_world.specs.Rows.{EndsAs, LeavesEnd};
-ghost use Rattle.class_world.specs.Sound.{AreNodes, Holds, IsClass, IsNode, AllHold};
+ghost use Rattle.proto_call.specs.Below.{map, IfOk, string_bytes, ℕ, Err, IfErr, bindings, Reading, Reads, plain, EndsAs, LeavesEnd, AreNodes, Holds, IsClass, IsNode, AllHold, in_length, in_module, module_of, qualname, Said, Ends, PyObjectRef as Object, of_ended};
+ghost use Rattle.std.specs.Prelude.{◌≡◌};
 ghost use Rattle.proto_call.specs.ClassMake.TypeNatives.{type_dir, class_text, with_class_and, type_native_say, type_repr, instance_check, subclass_check, type_subclasses, type_mro, type_prepare, type_subclass_hook};
-ghost use Rattle.row_kit.specs.Say.{in_length};
-ghost use Rattle.row_kit.specs.ClassNames.{in_module, module_of, qualname};
-ghost use Rattle.plain_machine.specs.Plain.{Said, Ends};
-ghost use Rattle.py_node.specs.declared.refs.PyObjectRef.{PyObjectRef as Object};
-ghost use Rattle.class_world.specs.Claims.{of_ended};
 
 use class_world::takes::two;
 use class_world::{Fixed, World};

@@ -1,13 +1,8 @@
 //! The natives of `type`.
 
-ghost use Rattle.std.specs.Prelude.{◌≡◌, option_map, IfOk, IsTrue};
-ghost use Rattle.plain_machine.specs.Objects.{nearest_built_in};
-ghost use Rattle.py_node.specs.declared.built_in.BuiltIn.TheVariants.{TypeType};
-ghost use Rattle.class_world.specs.Claims.{of_class_task, of_args, of_step, Leaves};
-ghost use Rattle.class_world.specs.Reading.{Reading, bindings, plain};
-ghost use Rattle.class_world.specs.Sound.{IsClass, IsOf, Holds, AllHold, of_class_ref, of_option};
+ghost use Rattle.proto_call.specs.Below.{option_map, IfOk, IsTrue, nearest_built_in, TypeType, of_class_task, of_args, of_step, Leaves, Reading, bindings, plain, IsClass, IsOf, Holds, AllHold, of_class_ref, of_option, the_type};
+ghost use Rattle.std.specs.Prelude.{◌≡◌};
 ghost use Rattle.proto_call.specs.ClassMake.Say.{called_with, is_class, type_call, type_new, type_new_of};
-ghost use Rattle.plain_machine.specs.Known.{the_type};
 ghost use Rattle.proto_call.specs.ClassMake.Rows.{Begins, Types, of_class_kept};
 ghost use Rattle.py_node.specs.declared.task.ClassTask.TheVariants as class_task;
 

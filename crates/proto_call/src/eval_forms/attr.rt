@@ -1,9 +1,7 @@
 //! Attributes that are read, set and taken out.
 
-ghost use Rattle.class_world.specs.Sound.{AllHold, Holds, IsName, AreNodes, of_node_ref, of_option};
-ghost use Rattle.class_world.specs.Claims.{of_step};
+ghost use Rattle.proto_call.specs.Below.{AllHold, Holds, IsName, AreNodes, of_node_ref, of_option, of_step, two_of};
 ghost use Rattle.proto_call.specs.EvalForms.Say.{attr_say, del_attr_say, set_attr_say};
-ghost use Rattle.plain_machine.specs.Args.{two_of};
 ghost use Rattle.proto_call.specs.EvalForms.Rows.{Takes, of_eval_kept};
 
 use crate::eval_forms::EvalKept;

@@ -1,13 +1,8 @@
 //! Words some of whose operands stand for numbers: how often, from where, and to where.
 
-ghost use Rattle.std.specs.Prelude.{◌≡◌, ℤ, cond, Err, IfErr, IfOk, None, Some};
+ghost use Rattle.proto_call.specs.Below.{ℤ, cond, Err, IfErr, IfOk, None, Some, two_of, Said, Ends, fits_index, of_ended, of_step, of_task, Reading, ended_of, plain, task_of, AllHold, Holds, IsNode, AreNodes};
+ghost use Rattle.std.specs.Prelude.{◌≡◌};
 ghost use Rattle.py_node.specs.declared.protocol.ProtocolTask.TheVariants as protocol;
-ghost use Rattle.plain_machine.specs.Args.{two_of};
-ghost use Rattle.plain_machine.specs.Plain.{Said, Ends};
-ghost use Rattle.plain_machine.specs.Row.{fits_index};
-ghost use Rattle.class_world.specs.Claims.{of_ended, of_step, of_task};
-ghost use Rattle.class_world.specs.Reading.{Reading, ended_of, plain, task_of};
-ghost use Rattle.class_world.specs.Sound.{AllHold, Holds, IsNode, AreNodes};
 ghost use Rattle.proto_call.specs.EvalForms.Words.{counted_outcome, counted_say, counted_task, del_slice_say, part_outcome, part_say, part_task, set_slice_say, slice_say, with_index};
 ghost use Rattle.proto_call.specs.EvalForms.Rows.{Resumes, Takes, of_eval_kept, of_part};
 

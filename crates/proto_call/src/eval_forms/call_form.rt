@@ -1,11 +1,8 @@
 //! Calls: what is called, or the object whose method is, has a value. Then a method is loaded, and then the
 //! arguments and the keywords are evaluated.
 
-ghost use Rattle.std.specs.Prelude.{◌≡◌, ◌+◌, ◌≤◌, [], length, map, slice_get, IfOk};
-ghost use Rattle.plain_machine.specs.Row.{start, pass, end};
-ghost use Rattle.class_world.specs.Sound.{AllHold, Holds, IsExpression, IsNode, AreNames, AreNodes, of_node_ref, of_option};
-ghost use Rattle.class_world.specs.Claims.{of_args, of_ended, of_step, of_task};
-ghost use Rattle.class_world.specs.Reading.{Reading, Reads, bindings, spelled, task_of};
+ghost use Rattle.proto_call.specs.Below.{[], length, map, slice_get, IfOk, start, pass, end, AllHold, Holds, IsExpression, IsNode, AreNames, AreNodes, of_node_ref, of_option, of_args, of_ended, of_step, of_task, Reading, Reads, bindings, spelled, task_of};
+ghost use Rattle.std.specs.Prelude.{◌≡◌, ◌+◌, ◌≤◌};
 ghost use Rattle.proto_call.specs.EvalForms.Say.{callee_say, callee_tree, called_say, given_say};
 ghost use Rattle.proto_call.specs.EvalForms.Rows.{Takes, Resumes, GoesOn, args_of, arguments, arguments_at, attribute, called_task, evaluated_tree, keywords_of, named, of_called, of_eval_kept, positional};
 

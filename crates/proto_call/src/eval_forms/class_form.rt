@@ -1,17 +1,9 @@
 //! The class form: a class's name, bases and entries are new objects, and a metaclass is called with them and with
 //! keywords.
 
-ghost use Rattle.std.specs.Prelude.{◌≡◌, ◌+◌, [], ◌∷◌, length, map, slice_get, IfOk, OnOk};
-ghost use Rattle.plain_machine.specs.World.{with_node, next_node};
-ghost use Rattle.plain_machine.specs.Plain.{AText, ATuple};
-ghost use Rattle.plain_machine.specs.Row.{start, end};
-ghost use Rattle.class_world.specs.Sound.{AllHold, Grows, Holds, IsName, IsNode, AreNames, AreNodes, of_each, of_binding, of_option, of_node_ref};
-ghost use Rattle.class_world.specs.Claims.{Leaves};
-ghost use Rattle.class_world.specs.Keyed.{of_entries, of_keyed};
-ghost use Rattle.class_world.specs.Reading.{Reading, Reads, bindings, plain, spelled};
-ghost use Rattle.py_node.specs.Attributes.{is_same_name};
+ghost use Rattle.proto_call.specs.Below.{[], length, map, slice_get, IfOk, OnOk, with_node, next_node, AText, ATuple, start, end, AllHold, Grows, Holds, IsName, IsNode, AreNames, AreNodes, of_each, of_binding, of_option, of_node_ref, Leaves, of_entries, of_keyed, Reading, Reads, bindings, plain, spelled, is_same_name, the_str, the_tuple};
+ghost use Rattle.std.specs.Prelude.{◌≡◌, ◌+◌, ◌∷◌};
 ghost use Rattle.proto_call.specs.EvalForms.Say.{class_by, class_say, class_within, keyed, metaclass, with_dict};
-ghost use Rattle.plain_machine.specs.Known.{the_str, the_tuple};
 ghost use Rattle.proto_call.specs.EvalForms.Rows.{Takes, of_eval_kept};
 
 use crate::eval_forms::EvalKept;

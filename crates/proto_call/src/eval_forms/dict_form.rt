@@ -1,10 +1,7 @@
 //! Dicts: each key is evaluated and then its value, and then the key is tested, before the next pair.
 
-ghost use Rattle.std.specs.Prelude.{◌≡◌, ◌≤◌, ◌<◌, length, slice_get, Ok, IfOk};
-ghost use Rattle.class_world.specs.Keyed.{of_keyed, of_pairs};
-ghost use Rattle.class_world.specs.Sound.{AllHold, Holds, IsExpression};
-ghost use Rattle.class_world.specs.Claims.{of_ended, of_step, Leaves};
-ghost use Rattle.plain_machine.specs.Dicts.{entries_from};
+ghost use Rattle.proto_call.specs.Below.{length, slice_get, Ok, IfOk, of_keyed, of_pairs, AllHold, Holds, IsExpression, of_ended, of_step, Leaves, entries_from};
+ghost use Rattle.std.specs.Prelude.{◌≡◌, ◌≤◌, ◌<◌};
 ghost use Rattle.proto_call.specs.EvalForms.Say.{make_dict};
 ghost use Rattle.proto_call.specs.EvalForms.Rows.{EndsRow, GoesOn, Resumes, of_eval_kept, pairs, pairs_at};
 

@@ -1,9 +1,7 @@
 //! Conditions, and expressions one after another.
 
 ghost use Rattle.std.specs.Prelude.{◌≡◌};
-ghost use Rattle.class_world.specs.Claims.{of_ended, of_step};
-ghost use Rattle.class_world.specs.Reading.{Reading};
-ghost use Rattle.class_world.specs.Sound.{AllHold, Holds, AreNodes, IsExpression, of_node_ref, of_option};
+ghost use Rattle.proto_call.specs.Below.{of_ended, of_step, Reading, AllHold, Holds, AreNodes, IsExpression, of_node_ref, of_option};
 ghost use Rattle.proto_call.specs.EvalForms.Say.{if_say, seq_say};
 ghost use Rattle.proto_call.specs.EvalForms.Rows.{EndsRow, Resumes, Takes, of_eval_kept};
 

@@ -1,10 +1,7 @@
 //! Keywords of calls and of classes.
 
-ghost use Rattle.std.specs.Prelude.{◌≡◌, ◌≤◌, [], filter, length, map, not, option_map, IfOk, IfSome};
-ghost use Rattle.py_node.specs.Attributes.{is_same_name};
-ghost use Rattle.class_world.specs.Held.{Held};
-ghost use Rattle.class_world.specs.Reading.{Reading, bindings, spelled};
-ghost use Rattle.class_world.specs.Sound.{AllHold, AreNames, AreNodes, Holds, of_binding, of_each};
+ghost use Rattle.proto_call.specs.Below.{[], filter, length, map, not, option_map, IfOk, IfSome, is_same_name, Held, Reading, bindings, spelled, AllHold, AreNames, AreNodes, Holds, of_binding, of_each};
+ghost use Rattle.std.specs.Prelude.{◌≡◌, ◌≤◌};
 ghost use Rattle.proto_call.specs.EvalForms.Say.{unrepeated};
 
 use class_world::args::filled;

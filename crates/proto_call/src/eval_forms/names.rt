@@ -1,10 +1,7 @@
 //! What a name names: a variable, or a built-in object.
 
-ghost use Rattle.std.specs.Prelude.{◌≡◌, IfSome, bytes_eq, map, option_map};
-ghost use Rattle.std.specs.List.{find};
-ghost use Rattle.class_world.specs.Sound.{AllHold, Holds, IsName, IsNode};
-ghost use Rattle.class_world.specs.Claims.{of_step};
-ghost use Rattle.class_world.specs.Reading.{Reading, Reads};
+ghost use Rattle.proto_call.specs.Below.{IfSome, bytes_eq, map, option_map, find, AllHold, Holds, IsName, IsNode, of_step, Reading, Reads};
+ghost use Rattle.std.specs.Prelude.{◌≡◌};
 ghost use Rattle.proto_call.specs.EvalForms.Say.{built_in_named, class_named, class_names, fixed_named, name_say};
 ghost use Rattle.proto_call.specs.EvalForms.Rows.{EndsRow, of_eval_kept};
 

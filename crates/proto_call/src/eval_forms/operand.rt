@@ -1,6 +1,7 @@
 //! The operands of expressions.
 
-ghost use Rattle.std.specs.Prelude.{◌≡◌, ◌++◌, [], ◌∷◌, map, slice_get};
+ghost use Rattle.proto_call.specs.Below.{[], map, slice_get};
+ghost use Rattle.std.specs.Prelude.{◌≡◌, ◌++◌, ◌∷◌};
 ghost use Rattle.proto_call.specs.EvalForms.Rows.{operands};
 
 use py_node::{Form, PyStrInterned};

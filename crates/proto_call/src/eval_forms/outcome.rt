@@ -1,12 +1,7 @@
 //! What is made of the answer to a word's task.
 
-ghost use Rattle.std.specs.Prelude.{◌≡◌, IfOk};
-ghost use Rattle.plain_machine.specs.Known.{the_int};
-ghost use Rattle.plain_machine.specs.Plain.{ANumber};
-ghost use Rattle.plain_machine.specs.Row.{make};
-ghost use Rattle.class_world.specs.Claims.{of_ended, Leaves};
-ghost use Rattle.class_world.specs.Reading.{ended_of};
-ghost use Rattle.class_world.specs.Sound.{AllHold};
+ghost use Rattle.proto_call.specs.Below.{IfOk, the_int, ANumber, make, of_ended, Leaves, ended_of, AllHold};
+ghost use Rattle.std.specs.Prelude.{◌≡◌};
 ghost use Rattle.proto_call.specs.EvalForms.Words.{made};
 ghost use Rattle.proto_call.specs.EvalForms.Rows.{EndsRow, of_eval_kept};
 

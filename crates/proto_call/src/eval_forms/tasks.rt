@@ -1,10 +1,7 @@
 //! The tasks that the words of operations ask.
 
-ghost use Rattle.std.specs.Prelude.{◌≡◌, option_map};
-ghost use Rattle.class_world.specs.Claims.{of_task};
-ghost use Rattle.class_world.specs.Held.{Held};
-ghost use Rattle.class_world.specs.Reading.{Reading, task_of};
-ghost use Rattle.class_world.specs.Sound.{AllHold, Holds, IsNode, AreNodes, of_option};
+ghost use Rattle.proto_call.specs.Below.{option_map, of_task, Held, Reading, task_of, AllHold, Holds, IsNode, AreNodes, of_option};
+ghost use Rattle.std.specs.Prelude.{◌≡◌};
 ghost use Rattle.proto_call.specs.EvalForms.Words.{binary_task, inplace_task, object_of_one, object_of_two, of_one, of_three, of_two, sequence_of_one, sequence_of_two, task_for};
 
 use class_world::{Fixed, World};

@@ -1,9 +1,7 @@
 //! Operations: the word's task, or what it reads of the operands by itself.
 
-ghost use Rattle.std.specs.Prelude.{◌≡◌, IfOk};
-ghost use Rattle.class_world.specs.Sound.{AllHold, Holds, IsNode, AreNodes};
-ghost use Rattle.class_world.specs.Claims.{of_step, Leaves};
-ghost use Rattle.plain_machine.specs.Args.{two_of};
+ghost use Rattle.proto_call.specs.Below.{IfOk, AllHold, Holds, IsNode, AreNodes, of_step, Leaves, two_of};
+ghost use Rattle.std.specs.Prelude.{◌≡◌};
 ghost use Rattle.proto_call.specs.EvalForms.Words.{asked, callable_of, format_of, has_attr_of, is_of, one_of, op_say, task_for, type_of};
 ghost use Rattle.proto_call.specs.EvalForms.Rows.{Takes, of_eval_kept};
 

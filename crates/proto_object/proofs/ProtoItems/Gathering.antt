@@ -1,31 +1,11 @@
 -- The items of what a mapping's method gave, one after another.
-use Rattle.std.proofs.Common.{◌≡◌, Bool, true, false, cond, List, [], ◌∷◌, ◌++◌, length, map, Ok, Err, refl, sym, ap, ◌∙◌, subst, append_assoc}
-use Rattle.std.specs.Prelude.{Result, nat_le}
-use Rattle.std.specs.Global.{Vec}
-use Rattle.std.proofs.lemmas.List.{map-append}
-use Rattle.py_node.specs.declared.refs.PyObjectRef.{PyObjectRef}
-use Rattle.py_node.specs.declared.raised.Raised.{Raised as Fault}
-use Rattle.py_node.specs.declared.raised.Cause.TheVariants.{TooLong}
-use Rattle.py_node.specs.declared.task.Answer.{Answer}
-use Rattle.py_node.specs.declared.task.Answer.TheVariants.{Value, Done, Number, Truth, Maybe, Objects, Exhausted, Method, Start}
+use Rattle.proto_object.proofs.Below.{Bool, true, false, cond, List, [], length, map, Ok, Err, refl, sym, ap, ◌∙◌, subst, append_assoc, nat_le, Vec, map-append, PyObjectRef, Raised as Fault, TooLong, Answer, Value, Done, Number, Truth, Maybe, Objects, Exhausted, Method, Start, Step, Ask, End, the_list, AList, PlainWorld, DoKeys, DoNext, ToProtocol, Answered, Told, Said, Ends, Row, fault, make, most_items, none, pass, value, World, Reading, ended_of, plain, EndsAs, Steps, list_made, raised, all_items, ItemsKept, Gathering, Iterating, answered, gathered, items_stands, loaded, items_job_say}
+use Rattle.std.proofs.Common.{◌≡◌, ◌∷◌, ◌++◌}
+use Rattle.std.specs.Prelude.{Result}
 use Rattle.py_node.specs.declared.task.PyMethod.TheVariants as method
 use Rattle.py_node.specs.declared.protocol.ProtocolTask.TheVariants as protocol
-use Rattle.py_node.specs.declared.task.Step.{Step}
-use Rattle.py_node.specs.declared.task.Step.TheVariants.{Ask, End}
 use Rattle.py_node.specs.declared.task.Task.TheVariants as task
-use Rattle.plain_machine.specs.Known.{the_list}
-use Rattle.plain_machine.specs.Plain.{AList, PlainWorld, DoKeys, DoNext, ToProtocol, Answered, Told, Said, Ends}
-use Rattle.plain_machine.specs.Row.{Row, fault, make, most_items, none, pass, value}
-use Rattle.class_world.specs.declared.world.World.{World}
-use Rattle.class_world.specs.Reading.{Reading, ended_of, plain}
-use Rattle.class_world.specs.Rows.{EndsAs, Steps}
-use Rattle.row_kit.specs.GiveContainers.{list_made}
-use Rattle.py_node.specs.Faults.{raised}
-use Rattle.row_kit.specs.ProtoBase.Each.{all_items}
-use Rattle.proto_object.specs.declared.proto_items.ItemsKept.{ItemsKept}
-use Rattle.proto_object.specs.declared.proto_items.ItemsKept.TheVariants.{Gathering, Iterating}
-use Rattle.proto_object.specs.ProtoItems.Rows.{IsNoItem, Resumes, answered, gathered, items_stands, loaded}
-use Rattle.proto_object.specs.ProtoItems.Say.{items_job_say}
+use Rattle.proto_object.specs.ProtoItems.Rows.{IsNoItem, Resumes}
 
 append-none : {A : Type 0} (xs : List A) → xs ++ [] ≡ xs
 append-none [] = refl

@@ -1,24 +1,7 @@
 -- How rows of slices go on once there is a new slice.
-use Rattle.std.proofs.Common.{◌≡◌, [], ◌∷◌, Some, refl, sym, ap, subst, ◌∙◌}
-use Rattle.std.specs.Prelude.{ℤ}
-use Rattle.py_node.specs.declared.refs.PyObjectRef.{PyObjectRef}
-use Rattle.py_node.specs.declared.entry.SlotId.TheVariants.{MapSubscript, MapAssSubscript}
-use Rattle.py_node.specs.declared.entry.SlotEntry.{SlotEntry}
+use Rattle.proto_object.proofs.Below.{[], Some, refl, sym, ap, subst, ◌∙◌, ℤ, PyObjectRef, MapSubscript, MapAssSubscript, SlotEntry, Task, Ask, Asks, DoGetSlice, DoSetSlice, DoDelSlice, PlainWorld, Said, pass, slot_at, World, Reading, Reads, plain, task_of, Steps, entered, Ending, Pass, deleted, del_slice_by, get_slice_by, set_slice_by, with_slice, items_stands, items_job_say}
+use Rattle.std.proofs.Common.{◌≡◌, ◌∷◌}
 use Rattle.py_node.specs.declared.known.Known.TheVariants as known
-use Rattle.py_node.specs.declared.task.Task.{Task}
-use Rattle.py_node.specs.declared.task.Step.TheVariants.{Ask}
-use Rattle.plain_machine.specs.Plain.{Asks, DoGetSlice, DoSetSlice, DoDelSlice, PlainWorld, Said}
-use Rattle.plain_machine.specs.Row.{pass}
-use Rattle.plain_machine.specs.World.{slot_at}
-use Rattle.class_world.specs.declared.world.World.{World}
-use Rattle.class_world.specs.Reading.{Reading, Reads, plain, task_of}
-use Rattle.class_world.specs.Rows.{Steps}
-use Rattle.row_kit.specs.ProtoBase.Entered.{entered}
-use Rattle.proto_object.specs.declared.proto_items.ItemsKept.TheVariants.{Ending, Pass}
-use Rattle.proto_object.specs.ProtoItems.Items.{deleted}
-use Rattle.proto_object.specs.ProtoItems.Slices.{del_slice_by, get_slice_by, set_slice_by, with_slice}
-use Rattle.proto_object.specs.ProtoItems.Rows.{items_stands}
-use Rattle.proto_object.specs.ProtoItems.Say.{items_job_say}
 
 -- an entry is asked of the object and of a new slice, whatever slot it was read in
 module _ (t : Reading) (w new : World) (o s : PyObjectRef) (i j : ℤ) (e : SlotEntry) (asked : Task) (old : Reads t w)

@@ -1,16 +1,6 @@
 -- Steps at an answer that is known.
-use Rattle.std.proofs.Common.{◌≡◌, Option, Some, None, Result, Ok, sym, subst}
-use Rattle.py_node.specs.declared.raised.Raised.{Raised as Fault}
-use Rattle.py_node.specs.declared.task.Answer.{Answer}
-use Rattle.py_node.specs.declared.task.Answer.TheVariants.{Value, Exhausted}
-use Rattle.py_node.specs.declared.refs.PyObjectRef.{PyObjectRef}
-use Rattle.py_node.specs.declared.task.Step.{Step}
-use Rattle.py_node.specs.declared.task.Step.TheVariants.{End}
-use Rattle.class_world.specs.Claims.{of_ended}
-use Rattle.class_world.specs.Sound.{AllHold}
-use Rattle.class_world.specs.declared.world.World.{World}
-use Rattle.proto_object.specs.declared.proto_iter.IterKept.{IterKept}
-use Rattle.proto_object.specs.ProtoIter.Rows.{IsItem, Resumes}
+use Rattle.proto_object.proofs.Below.{Option, Some, None, Result, Ok, sym, subst, Raised as Fault, Answer, Value, Exhausted, PyObjectRef, Step, End, of_ended, AllHold, World, IterKept, IsItem, Resumes}
+use Rattle.std.proofs.Common.{◌≡◌}
 
 pub answered : (k : IterKept) (r q : Result Answer Fault) (w : World) (step : Step IterKept) → r ≡ q → Resumes k q w w step → Resumes k r w w step
 answered k r q w step e h = subst (λ a. Resumes k a w w step) (sym e) h

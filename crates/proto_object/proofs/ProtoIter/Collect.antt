@@ -1,25 +1,10 @@
 -- How all items of an iteration are collected.
-use Rattle.std.proofs.Common.{◌≡◌, List, [], ◌∷◌, ◌++◌, Bool, true, false, cond, Result, Ok, Err, refl, sym, ap, ◌∙◌}
-use Rattle.std.specs.Prelude.{length, nat_le}
-use Rattle.std.specs.Global.{Vec}
-use Rattle.py_node.specs.declared.raised.Cause.TheVariants.{TooLong}
-use Rattle.py_node.specs.declared.refs.PyObjectRef.{PyObjectRef}
+use Rattle.proto_object.proofs.Below.{List, [], Bool, true, false, cond, Result, Ok, Err, refl, sym, ap, ◌∙◌, nat_le, Vec, TooLong, PyObjectRef, Answer, Value, Exhausted, Objects, Method, Raised as Fault, Ask, End, PlainWorld, AsExhausted, Answered, DoNext, Ended, Ends, Said, Told, ToProtocol, end, fault, most_items, pass, value, Reading, ended_of, plain, World, items-so-far, told-more, all_items, objects, Collecting, IsNoItem, Resumes, iter_job_say}
+use Rattle.std.proofs.Common.{◌≡◌, ◌∷◌, ◌++◌}
+use Rattle.std.specs.Prelude.{length}
 use Rattle.py_node.specs.declared.protocol.ProtocolTask.TheVariants as protocol
-use Rattle.py_node.specs.declared.task.Answer.{Answer}
-use Rattle.py_node.specs.declared.task.Answer.TheVariants.{Value, Exhausted, Objects, Method}
 use Rattle.py_node.specs.declared.task.PyMethod.TheVariants as method
-use Rattle.py_node.specs.declared.raised.Raised.{Raised as Fault}
-use Rattle.py_node.specs.declared.task.Step.TheVariants.{Ask, End}
 use Rattle.py_node.specs.declared.task.Task.TheVariants as task
-use Rattle.plain_machine.specs.Plain.{PlainWorld, AsExhausted, Answered, DoNext, Ended, Ends, Said, Told, ToProtocol}
-use Rattle.plain_machine.specs.Row.{end, fault, most_items, pass, value}
-use Rattle.class_world.specs.Reading.{Reading, ended_of, plain}
-use Rattle.class_world.specs.declared.world.World.{World}
-use Rattle.row_kit.proofs.ProtoBase.Each.{items-so-far, told-more}
-use Rattle.row_kit.specs.ProtoBase.Each.{all_items, objects}
-use Rattle.proto_object.specs.declared.proto_iter.IterKept.TheVariants.{Collecting}
-use Rattle.proto_object.specs.ProtoIter.Rows.{IsNoItem, Resumes}
-use Rattle.proto_object.specs.ProtoIter.Say.{iter_job_say}
 use Rattle.proto_object.proofs.ProtoIter.Steps.{asks-so, ends-so, told_more}
 
 -- with these items so far

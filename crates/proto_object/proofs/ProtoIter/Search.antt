@@ -1,29 +1,12 @@
 -- How a search goes on where some items were told.
-use Rattle.std.proofs.Common.{◌≡◌, ℕ, zero, suc, ◌+◌, ◌≤◌, ◌⊎◌, inl, inr, Bool, true, false, cond, [], ◌∷◌, ◌++◌, Result, Ok, Err, refl, sym, ap, ◌∙◌, arith}
-use Rattle.std.specs.Prelude.{◌^◌, pos}
-use Rattle.std.proofs.lemmas.Bool.{le-ltb}
-use Rattle.py_node.specs.declared.raised.Raised.{Raised as Fault}
-use Rattle.py_node.specs.declared.raised.Cause.TheVariants.{IndexRange}
-use Rattle.py_node.specs.declared.refs.PyObjectRef.{PyObjectRef}
+use Rattle.proto_object.proofs.Below.{ℕ, zero, suc, inl, inr, Bool, true, false, cond, [], Result, Ok, Err, refl, sym, ap, ◌∙◌, arith, pos, le-ltb, Raised as Fault, IndexRange, PyObjectRef, Answer, Value, Truth, Exhausted, Method, Ask, End, PlainWorld, AsValue, AsTruth, AsExhausted, Answered, Ended, Ends, Told, fault, value, Reading, ended_of, plain, World, number, says, turned, Begun, Next, Equal, Search, Seeking, counted, CountsAlike, IsNoItem, IsNoTruth, Resumes, counts_equal, last_of, nil, rounds, search_job, seeking, turn_of, way_told, iter_job_say}
+use Rattle.std.proofs.Common.{◌≡◌, ◌+◌, ◌≤◌, ◌⊎◌, ◌∷◌, ◌++◌}
+use Rattle.std.specs.Prelude.{◌^◌}
 use Rattle.py_node.specs.declared.protocol.CompareTask.TheVariants as compare
 use Rattle.py_node.specs.declared.protocol.ProtocolTask.TheVariants as protocol
-use Rattle.py_node.specs.declared.task.Answer.{Answer}
-use Rattle.py_node.specs.declared.task.Answer.TheVariants.{Value, Truth, Exhausted, Method}
 use Rattle.py_node.specs.declared.task.PyMethod.TheVariants as method
-use Rattle.py_node.specs.declared.task.Step.TheVariants.{Ask, End}
 use Rattle.py_node.specs.declared.task.Task.TheVariants as task
-use Rattle.plain_machine.specs.Plain.{PlainWorld, AsValue, AsTruth, AsExhausted, Answered, Ended, Ends, Told}
-use Rattle.plain_machine.specs.Row.{fault, value}
-use Rattle.class_world.specs.Reading.{Reading, ended_of, plain}
-use Rattle.class_world.specs.declared.world.World.{World}
-use Rattle.row_kit.specs.ProtoBase.Each.{number, says, turned}
-use Rattle.proto_object.specs.declared.proto_iter.IterKept.TheVariants.{Begun, Next, Equal}
-use Rattle.proto_object.specs.declared.proto_iter.seek.Search.{Search}
 use Rattle.proto_object.specs.declared.proto_iter.seek.Search.TheVariants as search
-use Rattle.proto_object.specs.declared.proto_iter.seek.Seeking.{Seeking}
-use Rattle.proto_object.specs.ProtoIter.Iteration.{counted}
-use Rattle.proto_object.specs.ProtoIter.Rows.{CountsAlike, IsNoItem, IsNoTruth, Resumes, counts_equal, last_of, nil, rounds, search_job, seeking, turn_of, way_told}
-use Rattle.proto_object.specs.ProtoIter.Say.{iter_job_say}
 use Rattle.proto_object.proofs.ProtoIter.Steps.{asks-so, ends-so, told_more}
 
 -- more may be told after some items

@@ -1,17 +1,7 @@
 -- Steps of rows at an answer, from what the row says where it was told more.
-use Rattle.std.proofs.Common.{◌≡◌, [], ◌∷◌, ◌++◌, Result, refl, sym, ap, ◌∙◌, subst}
-use Rattle.std.proofs.lemmas.List.{append_assoc, append-nil}
-use Rattle.py_node.specs.declared.raised.Raised.{Raised as Fault}
-use Rattle.py_node.specs.declared.task.Answer.{Answer}
-use Rattle.py_node.specs.declared.task.Task.{Task}
-use Rattle.py_node.specs.declared.task.Step.TheVariants.{Ask, End}
-use Rattle.plain_machine.specs.Plain.{PlainWorld, Answered, Ended, Told, Said, Asks, Ends}
-use Rattle.class_world.specs.Reading.{Reading, ended_of, plain, task_of}
-use Rattle.class_world.specs.Rows.{Steps}
-use Rattle.class_world.specs.declared.world.World.{World}
-use Rattle.proto_object.specs.declared.proto_iter.IterKept.{IterKept}
-use Rattle.proto_object.specs.ProtoIter.Rows.{Resumes, iter_stands}
-use Rattle.proto_object.specs.ProtoIter.Say.{iter_job_say}
+use Rattle.proto_object.proofs.Below.{[], Result, refl, sym, ap, ◌∙◌, subst, append-nil, Raised as Fault, Answer, Task, Ask, End, PlainWorld, Answered, Ended, Told, Said, Asks, Ends, Reading, ended_of, plain, task_of, Steps, World, IterKept, Resumes, iter_stands, iter_job_say}
+use Rattle.std.proofs.Common.{◌≡◌, ◌∷◌, ◌++◌}
+use Rattle.std.proofs.lemmas.List.{append_assoc}
 
 -- what the row says that the code keeps this for, where it is told more
 abbrev pub told_more : Reading → IterKept → PlainWorld → Told → Said

@@ -1,20 +1,7 @@
 -- What a text spells is what `parse` reads.
-use Rattle.std.proofs.Common.{◌≡◌, ◌∙◌, ◌&&◌, Bool, true, false, cond, drop, [], ◌∷◌, Ok, refl, sym, ap, arith}
-use Rattle.std.specs.Prelude.{ℤ, ◌==◌}
-use Rattle.std.specs.Int.{w128}
-use Rattle.std.specs.Int.RustNames.{FitsSigned}
-use Rattle.std.specs.Char.{is_ascii_digit}
-use Rattle.std.specs.List.{list_all}
-use Rattle.std.specs.Str.{all_ascii_digits}
-use Rattle.std.specs.Str.Parse.{IsNumeral, digits_value, signed_digits_value, starts_with_minus, without_leading_sign}
-use Rattle.std.proofs.lemmas.Bool.{true≢false}
-use Rattle.std.proofs.lemmas.Str.Parse.{numerals_by_value, tells_all_ascii_digits}
-use Rattle.py_node.specs.declared.raised.Cause.TheVariants.{IntLiteral, IntRange}
-use Rattle.py_node.specs.Tree.{Text}
-use Rattle.plain_machine.specs.Row.{fault, fits}
-use Rattle.row_kit.specs.Say.{in_range}
-use Rattle.row_kit.proofs.Fits.{fits-false}
-use Rattle.proto_object.specs.ProtoNumber.Numbers.{is_negative, is_numeral, signed, spelled, without_sign}
+use Rattle.proto_object.proofs.Below.{◌∙◌, Bool, true, false, cond, drop, [], Ok, refl, sym, ap, arith, ℤ, w128, FitsSigned, is_ascii_digit, list_all, all_ascii_digits, IsNumeral, digits_value, signed_digits_value, starts_with_minus, without_leading_sign, true≢false, numerals_by_value, tells_all_ascii_digits, IntLiteral, IntRange, Text, fault, fits, in_range, fits-false, is_negative, is_numeral, signed, spelled, without_sign}
+use Rattle.std.proofs.Common.{◌≡◌, ◌&&◌, ◌∷◌}
+use Rattle.std.specs.Prelude.{◌==◌}
 
 all-digits : (x : Text) → all_ascii_digits x ≡ list_all is_ascii_digit x
 all-digits [] = refl

@@ -1,23 +1,9 @@
 -- What the rows of items say: how the item of a key is read, set and taken out.
-use Rattle.std.specs.Prelude.{ℕ, zero, suc, Bool, true, false, cond, not, eqb, ◌&&◌, [], ◌∷◌, Option, Some, None, Ok, Err}
-use Rattle.std.specs.Option.{option_or}
-use Rattle.py_node.specs.declared.refs.PyObjectRef.{PyObjectRef}
-use Rattle.py_node.specs.declared.raised.Cause.TheVariants.{NotSubscriptable, NoItemAssignment, NoItemDeletion}
+use Rattle.proto_object.specs.Below.{ℕ, zero, suc, Bool, true, false, cond, not, eqb, [], Option, Some, None, Ok, Err, option_or, PyObjectRef, NotSubscriptable, NoItemAssignment, NoItemDeletion, NativeEntry, OfList, OfDict, MapSubscript, MapAssSubscript, SeqItem, SeqAssItem, SlotEntry, Native, known_text, the_type, is_instance, PlainWorld, DoGetAttr, DoCall, DoIndex, ToAttribute, ToCall, ToProtocol, AsValue, Ended, Chose, Said, Asks, Ends, Row, start, fork, pass, end, done, fault, is_attribute_error, on_value, on_done, slot_at, entered}
+use Rattle.std.specs.Prelude.{◌&&◌, ◌∷◌}
 use Rattle.py_node.specs.declared.entry.DictNative.TheVariants as dict
 use Rattle.py_node.specs.declared.entry.ListNative.TheVariants as list
-use Rattle.py_node.specs.declared.entry.NativeEntry.{NativeEntry}
-use Rattle.py_node.specs.declared.entry.NativeEntry.TheVariants.{OfList, OfDict}
-use Rattle.py_node.specs.declared.entry.SlotId.TheVariants.{MapSubscript, MapAssSubscript, SeqItem, SeqAssItem}
-use Rattle.py_node.specs.declared.entry.SlotEntry.{SlotEntry}
-use Rattle.py_node.specs.declared.entry.SlotEntry.TheVariants.{Native}
 use Rattle.py_node.specs.declared.known.Known.TheVariants as known
-use Rattle.py_node.specs.Known.{known_text}
-use Rattle.plain_machine.specs.Known.{the_type}
-use Rattle.plain_machine.specs.Objects.{is_instance}
-use Rattle.plain_machine.specs.Plain.{PlainWorld, DoGetAttr, DoCall, DoIndex, ToAttribute, ToCall, ToProtocol, AsValue, Ended, Chose, Said, Asks, Ends}
-use Rattle.plain_machine.specs.Row.{Row, start, fork, pass, end, done, fault, is_attribute_error, on_value, on_done}
-use Rattle.plain_machine.specs.World.{slot_at}
-use Rattle.row_kit.specs.ProtoBase.Entered.{entered}
 
 -- a class other than `type`
 abbrev pub is_subscripted : PlainWorld → PyObjectRef → Bool

@@ -1,19 +1,7 @@
 -- What the contracts of the rows of items, slices and mappings say.
-use Rattle.std.specs.Prelude.{List, [], ◌∷◌, Option, Some, None, Result, Ok, map}
-use Rattle.py_node.specs.declared.raised.Raised.{Raised as Fault}
-use Rattle.py_node.specs.declared.refs.PyObjectRef.{PyObjectRef}
-use Rattle.py_node.specs.declared.task.Answer.{Answer}
-use Rattle.py_node.specs.declared.task.Answer.TheVariants.{Value, Exhausted}
-use Rattle.py_node.specs.declared.protocol.ProtocolTask.{ProtocolTask}
-use Rattle.py_node.specs.declared.task.Step.{Step}
-use Rattle.plain_machine.specs.Plain.{PlainWorld, ProtocolJob, DoGetItem, DoSetItem, DoKeys, AsAttribute, Answered, Chose, Fact, Told, Said}
-use Rattle.plain_machine.specs.Row.{value, none}
-use Rattle.plain_machine.specs.Rows.{Pending}
-use Rattle.class_world.specs.declared.world.World.{World}
-use Rattle.class_world.specs.Reading.{Reading, protocol_job}
+use Rattle.proto_object.specs.Below.{List, [], Option, Some, None, Result, Ok, map, Raised as Fault, PyObjectRef, Answer, Value, Exhausted, ProtocolTask, Step, PlainWorld, ProtocolJob, DoGetItem, DoSetItem, DoKeys, AsAttribute, Answered, Chose, Fact, Told, Said, value, none, Pending, World, Reading, protocol_job, Group, Claim, AreNodes, IsNode}
+use Rattle.std.specs.Prelude.{◌∷◌}
 use Rattle.class_world.specs.Rows as rows
-use Rattle.class_world.specs.Rows.{Group}
-use Rattle.class_world.specs.Sound.{Claim, AreNodes, IsNode}
 use Rattle.proto_object.specs.declared.proto_items.ItemsKept.{ItemsKept}
 use Rattle.proto_object.specs.declared.proto_items.ItemsKept.TheVariants.{Pass, AfterIndex, AfterClass, Ending, Loaded, Invoked, Iterating, Gathering}
 use Rattle.proto_object.specs.ProtoItems.Say.{items_job_say}

@@ -1,6 +1,5 @@
 -- What the rows of items, slices and views say.
-use Rattle.plain_machine.specs.Plain.{PlainWorld, ProtocolJob, DoGetItem, DoSetItem, DoDelItem, DoGetSlice, DoSetSlice, DoDelSlice, DoKeys, DoValues, DoItems}
-use Rattle.plain_machine.specs.Row.{Row, end, elsewhere}
+use Rattle.proto_object.specs.Below.{PlainWorld, ProtocolJob, DoGetItem, DoSetItem, DoDelItem, DoGetSlice, DoSetSlice, DoDelSlice, DoKeys, DoValues, DoItems, Row, end, elsewhere}
 use Rattle.proto_object.specs.ProtoItems.Items.{get_item_say, set_item_say, del_item_say}
 use Rattle.proto_object.specs.ProtoItems.Slices.{get_slice_say, set_slice_say, del_slice_say}
 use Rattle.proto_object.specs.ProtoItems.Views.{keys_say, values_say, items_say}

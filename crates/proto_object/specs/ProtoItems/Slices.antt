@@ -1,17 +1,7 @@
 -- What the rows of slices say: how a part of a sequence is read, set and taken out.
-use Rattle.std.specs.Prelude.{ℕ, ℤ, [], ◌∷◌, Option, Some, None}
-use Rattle.py_node.specs.declared.refs.PyObjectRef.{PyObjectRef}
-use Rattle.py_node.specs.declared.built_in.BuiltIn.TheVariants.{Slice}
-use Rattle.py_node.specs.declared.raised.Cause.TheVariants.{Unsliceable}
-use Rattle.py_node.specs.declared.entry.SlotId.TheVariants.{MapSubscript, MapAssSubscript}
-use Rattle.py_node.specs.declared.entry.SlotEntry.{SlotEntry}
+use Rattle.proto_object.specs.Below.{ℕ, ℤ, [], Option, Some, None, PyObjectRef, Slice, Unsliceable, MapSubscript, MapAssSubscript, SlotEntry, place_of, the_int, ANumber, ASlice, PlainWorld, Said, Ends, Row, start, pass, end, fault, slot_at, with_node, next_node, entered}
+use Rattle.std.specs.Prelude.{◌∷◌}
 use Rattle.py_node.specs.declared.known.Known.TheVariants as known
-use Rattle.py_node.specs.BuiltIns.{place_of}
-use Rattle.plain_machine.specs.Known.{the_int}
-use Rattle.plain_machine.specs.Plain.{ANumber, ASlice, PlainWorld, Said, Ends}
-use Rattle.plain_machine.specs.Row.{Row, start, pass, end, fault}
-use Rattle.plain_machine.specs.World.{slot_at, with_node, next_node}
-use Rattle.row_kit.specs.ProtoBase.Entered.{entered}
 use Rattle.proto_object.specs.ProtoItems.Items.{deleted, ends_done}
 
 abbrev pub the_slice : ℕ

@@ -1,18 +1,6 @@
 -- What the rows of a mapping's keys, values and items say.
-use Rattle.std.specs.Prelude.{Bool, true, false, cond, [], Option, Some, None, Ok, Err}
-use Rattle.py_node.specs.declared.refs.PyObjectRef.{PyObjectRef}
-use Rattle.py_node.specs.declared.raised.Cause.TheVariants.{NonIterableMethod}
-use Rattle.py_node.specs.declared.known.Known.{Known}
+use Rattle.proto_object.specs.Below.{Bool, true, false, cond, [], Option, Some, None, Ok, Err, PyObjectRef, NonIterableMethod, Known, known_text, Entries, the_list, the_dict, AList, PlainWorld, DoLoadMethod, DoInvoke, DoGetIter, ToAttribute, ToProtocol, AsFunction, AsAttribute, Ended, Said, Ends, Row, start, ask, pass, end, value, fault, on_value, make, entries_at, list_made, pairs_made, keys_of, values_of, all_items, is_exactly}
 use Rattle.py_node.specs.declared.known.Known.TheVariants as known
-use Rattle.py_node.specs.Known.{known_text}
-use Rattle.plain_machine.specs.Dicts.{Entries}
-use Rattle.plain_machine.specs.Known.{the_list, the_dict}
-use Rattle.plain_machine.specs.Plain.{AList, PlainWorld, DoLoadMethod, DoInvoke, DoGetIter, ToAttribute, ToProtocol, AsFunction, AsAttribute, Ended, Said, Ends}
-use Rattle.plain_machine.specs.Row.{Row, start, ask, pass, end, value, fault, on_value, make}
-use Rattle.row_kit.specs.TakeContainers.{entries_at}
-use Rattle.row_kit.specs.GiveContainers.{list_made, pairs_made, keys_of, values_of}
-use Rattle.row_kit.specs.ProtoBase.Each.{all_items}
-use Rattle.row_kit.specs.ProtoBase.Entered.{is_exactly}
 
 -- a method that was loaded: the object that goes before its arguments, if any, and what is called
 abbrev pub on_method : PlainWorld → Ended → (Option PyObjectRef → PyObjectRef → Row) → Row

@@ -1,21 +1,7 @@
 -- What the rows of iterations say: their beginning, their next item, all items, and what is asked of each item.
-use Rattle.std.specs.Prelude.{ℕ, zero, suc, pos, ◌+◌, Bool, true, false, cond, is_some, [], ◌∷◌, Option, Some, None, Result, Ok, Err}
-use Rattle.py_node.specs.declared.refs.PyObjectRef.{PyObjectRef}
-use Rattle.py_node.specs.declared.raised.Cause.TheVariants.{IndexRange, NotFound, NotIterable, NotIterator}
-use Rattle.py_node.specs.declared.raised.Kind.{Kind}
-use Rattle.py_node.specs.declared.raised.Kind.TheVariants.{StopIteration}
-use Rattle.py_node.specs.declared.entry.SlotId.TheVariants.{Iter, Iternext, SeqItem, SeqContains}
-use Rattle.py_node.specs.declared.entry.SlotEntry.{SlotEntry}
-use Rattle.py_node.specs.declared.entry.SlotEntry.TheVariants.{Native}
+use Rattle.proto_object.specs.Below.{ℕ, zero, suc, pos, Bool, true, false, cond, is_some, [], Option, Some, None, Result, Ok, Err, PyObjectRef, IndexRange, NotFound, NotIterable, NotIterator, Kind, StopIteration, Iter, Iternext, SeqItem, SeqContains, SlotEntry, Native, PlainWorld, DoIsTrue, DoGetIter, ToProtocol, AsExhausted, Ended, Chose, Said, Asks, Ends, Row, start, fork, ask, pass, end, value, fault, fits_index, on_value, slot_at, iterator_made, items_at, truth_of, says, number, objects, all_items, each_equal, entered, is_plain}
+use Rattle.std.specs.Prelude.{◌+◌, ◌∷◌}
 use Rattle.py_node.specs.declared.known.Known.TheVariants as known
-use Rattle.plain_machine.specs.Plain.{PlainWorld, DoIsTrue, DoGetIter, ToProtocol, AsExhausted, Ended, Chose, Said, Asks, Ends}
-use Rattle.plain_machine.specs.Row.{Row, start, fork, ask, pass, end, value, fault, fits_index, on_value}
-use Rattle.plain_machine.specs.World.{slot_at}
-use Rattle.row_kit.specs.Say.{iterator_made}
-use Rattle.row_kit.specs.TakeContainers.{items_at}
-use Rattle.row_kit.specs.IntValues.{truth_of}
-use Rattle.row_kit.specs.ProtoBase.Each.{says, number, objects, all_items, each_equal}
-use Rattle.row_kit.specs.ProtoBase.Entered.{entered, is_plain}
 
 -- an iteration begins with what the object's class says of it, which must have a next item, or else goes over the object's items by their places
 abbrev pub get_iter_by : PlainWorld → Option SlotEntry → Bool → PyObjectRef → Said

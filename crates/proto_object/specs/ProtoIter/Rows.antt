@@ -1,22 +1,7 @@
 -- What the contracts of the rows of iterations say.
-use Rattle.std.specs.Prelude.{◌≡◌, ℕ, zero, suc, ◌^◌, ◌≤◌, ◌⊎◌, Bool, true, false, List, [], ◌∷◌, Option, Some, None, Result, Ok}
-use Rattle.py_node.specs.declared.raised.Raised.{Raised as Fault}
-use Rattle.py_node.specs.declared.refs.PyObjectRef.{PyObjectRef}
-use Rattle.py_node.specs.declared.task.Answer.{Answer}
-use Rattle.py_node.specs.declared.task.Answer.TheVariants.{Value, Truth, Exhausted}
-use Rattle.py_node.specs.declared.protocol.ProtocolTask.{ProtocolTask}
-use Rattle.py_node.specs.declared.task.Step.{Step}
-use Rattle.py_node.specs.declared.raised.Cause.TheVariants.{NotFound}
-use Rattle.plain_machine.specs.Plain.{PlainWorld, ProtocolJob, DoGetIter, DoNext, DoCollect, DoContains, DoCount, DoFind, Answered, Chose, Ended, Told}
-use Rattle.plain_machine.specs.Row.{Row, value, fault}
-use Rattle.plain_machine.specs.Rows.{Pending}
-use Rattle.plain_machine.specs.World.{ref}
-use Rattle.class_world.specs.declared.world.World.{World}
-use Rattle.class_world.specs.Reading.{Reading, protocol_job}
+use Rattle.proto_object.specs.Below.{ℕ, zero, suc, Bool, true, false, List, [], Option, Some, None, Result, Ok, Raised as Fault, PyObjectRef, Answer, Value, Truth, Exhausted, ProtocolTask, Step, NotFound, PlainWorld, ProtocolJob, DoGetIter, DoNext, DoCollect, DoContains, DoCount, DoFind, Answered, Chose, Ended, Told, Row, value, fault, Pending, ref, World, Reading, protocol_job, Group, Claim, IsNode, AreNodes, says, each_equal, items_told}
+use Rattle.std.specs.Prelude.{◌≡◌, ◌^◌, ◌≤◌, ◌⊎◌, ◌∷◌}
 use Rattle.class_world.specs.Rows as rows
-use Rattle.class_world.specs.Rows.{Group}
-use Rattle.class_world.specs.Sound.{Claim, IsNode, AreNodes}
-use Rattle.row_kit.specs.ProtoBase.Each.{says, each_equal, items_told}
 use Rattle.proto_object.specs.declared.proto_iter.IterKept.{IterKept}
 use Rattle.proto_object.specs.declared.proto_iter.IterKept.TheVariants.{Pass, AfterIter, AfterNext, Beginning, Collecting, AfterNative, AfterContains, Begun, Next, Equal}
 use Rattle.proto_object.specs.declared.proto_iter.seek.Search.{Search}

@@ -1,6 +1,5 @@
 -- What the rows of iterations say.
-use Rattle.plain_machine.specs.Plain.{PlainWorld, ProtocolJob, DoGetIter, DoNext, DoCollect, DoContains, DoCount, DoFind}
-use Rattle.plain_machine.specs.Row.{Row, end, elsewhere}
+use Rattle.proto_object.specs.Below.{PlainWorld, ProtocolJob, DoGetIter, DoNext, DoCollect, DoContains, DoCount, DoFind, Row, end, elsewhere}
 use Rattle.proto_object.specs.ProtoIter.Iteration.{get_iter_say, next_say, collect_say, contains_say, count_say, find_say}
 
 unfoldable pub iter_job_say : PlainWorld → ProtocolJob → Row

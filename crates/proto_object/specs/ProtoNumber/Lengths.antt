@@ -1,20 +1,6 @@
 -- What the rows of lengths say.
-use Rattle.std.specs.Prelude.{ℕ, zero, suc, ℤ, pos, int_lt, Bool, true, false, cond, [], ◌∷◌, Option, Some, None, Ok, Err}
-use Rattle.std.specs.Option.{option_or}
-use Rattle.py_node.specs.declared.refs.PyObjectRef.{PyObjectRef}
-use Rattle.py_node.specs.declared.raised.Kind.{Kind}
-use Rattle.py_node.specs.declared.raised.Kind.TheVariants.{TypeError}
-use Rattle.py_node.specs.declared.raised.Cause.TheVariants.{IndexRange, LengthType, NegativeLength, NoLength}
-use Rattle.py_node.specs.declared.entry.SlotId.TheVariants.{SeqLength, MapLength}
-use Rattle.py_node.specs.declared.entry.SlotEntry.{SlotEntry}
-use Rattle.py_node.specs.declared.entry.SlotEntry.TheVariants.{Native}
-use Rattle.py_node.specs.declared.known.Known.TheVariants.{Len, LengthHint}
-use Rattle.py_node.specs.Known.{known_text}
-use Rattle.plain_machine.specs.Plain.{PlainWorld, DoSpecial, DoBind, DoCall, DoLength, ToAttribute, ToCall, ToProtocol, AsNumber, AsMaybe, Ended, Said, Asks, Ends, Chose}
-use Rattle.plain_machine.specs.World.{datum_at, number_of, slot_at}
-use Rattle.plain_machine.specs.Native.{native_task}
-use Rattle.plain_machine.specs.Objects.{special_at, type_object}
-use Rattle.plain_machine.specs.Row.{Row, start, fork, ask, pass, end, fault, fits_index, is_not_implemented, on_value}
+use Rattle.proto_object.specs.Below.{ℕ, zero, suc, ℤ, pos, int_lt, Bool, true, false, cond, [], Option, Some, None, Ok, Err, option_or, PyObjectRef, Kind, TypeError, IndexRange, LengthType, NegativeLength, NoLength, SeqLength, MapLength, SlotEntry, Native, Len, LengthHint, known_text, PlainWorld, DoSpecial, DoBind, DoCall, DoLength, ToAttribute, ToCall, ToProtocol, AsNumber, AsMaybe, Ended, Said, Asks, Ends, Chose, datum_at, number_of, slot_at, native_task, special_at, type_object, Row, start, fork, ask, pass, end, fault, fits_index, is_not_implemented, on_value}
+use Rattle.std.specs.Prelude.{◌∷◌}
 
 abbrev pub as_number : ℤ → Ended
 as_number z = Ok (AsNumber z)

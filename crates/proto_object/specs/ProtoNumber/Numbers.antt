@@ -1,24 +1,8 @@
 -- What the rows say by which an object stands for a whole number.
-use Rattle.std.specs.Prelude.{ℕ, zero, suc, ℤ, pos, neg_ℤ, Bool, false, cond, ◌||◌, ◌==◌, is_some, [], ◌∷◌, Option, Some, None, Result, Ok, Err}
-use Rattle.std.specs.Char.{is_ascii_digit}
-use Rattle.std.specs.List.{list_all}
-use Rattle.std.specs.Str.Parse.{digits_value}
-use Rattle.py_node.specs.declared.refs.PyObjectRef.{PyObjectRef}
-use Rattle.py_node.specs.declared.raised.Raised.{Raised as Fault}
-use Rattle.py_node.specs.declared.raised.Cause.TheVariants.{IndexReturn, IntLiteral, IntReturn, NotIndex, NotInt, TruncReturn}
+use Rattle.proto_object.specs.Below.{ℕ, zero, suc, ℤ, pos, neg_ℤ, Bool, false, cond, is_some, [], Option, Some, None, Result, Ok, Err, is_ascii_digit, list_all, digits_value, PyObjectRef, Raised as Fault, IndexReturn, IntLiteral, IntReturn, NotIndex, NotInt, TruncReturn, SlotEntry, Native, Wrapper, known_text, Text, Datum, AText, PlainWorld, DoSpecial, DoIndex, ToAttribute, ToProtocol, Ended, Said, Asks, Ends, Chose, class_at, datum_at, number_of, slot_at, native_task, special_at, Row, start, fork, ask, pass, end, value, fault, on_value, in_range, int_made, as_int, is_int}
+use Rattle.std.specs.Prelude.{◌||◌, ◌==◌, ◌∷◌}
 use Rattle.py_node.specs.declared.entry.SlotId.TheVariants as slot
-use Rattle.py_node.specs.declared.entry.SlotEntry.{SlotEntry}
-use Rattle.py_node.specs.declared.entry.SlotEntry.TheVariants.{Native, Wrapper}
 use Rattle.py_node.specs.declared.known.Known.TheVariants as known
-use Rattle.py_node.specs.Known.{known_text}
-use Rattle.py_node.specs.Tree.{Text}
-use Rattle.plain_machine.specs.Plain.{Datum, AText, PlainWorld, DoSpecial, DoIndex, ToAttribute, ToProtocol, Ended, Said, Asks, Ends, Chose}
-use Rattle.plain_machine.specs.World.{class_at, datum_at, number_of, slot_at}
-use Rattle.plain_machine.specs.Native.{native_task}
-use Rattle.plain_machine.specs.Objects.{special_at}
-use Rattle.plain_machine.specs.Row.{Row, start, fork, ask, pass, end, value, fault, on_value}
-use Rattle.row_kit.specs.Say.{in_range, int_made}
-use Rattle.row_kit.specs.IntValues.{as_int, is_int}
 
 -- a method must answer an object that holds a number, and that is the answer
 abbrev pub number_given : PlainWorld → Ended → Ended → Row

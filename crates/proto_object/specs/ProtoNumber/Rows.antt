@@ -1,21 +1,7 @@
 -- What the contracts of the rows of numbers, truth values and lengths say.
-use Rattle.std.specs.Prelude.{ℤ, List, [], ◌∷◌, Result, Option, None, Err, option_map}
-use Rattle.py_node.specs.declared.raised.Raised.{Raised as Fault}
-use Rattle.py_node.specs.declared.raised.Kind.TheVariants.{TypeError}
-use Rattle.py_node.specs.declared.raised.Cause.TheVariants.{NoLength}
-use Rattle.py_node.specs.declared.refs.PyObjectRef.{PyObjectRef}
-use Rattle.py_node.specs.declared.task.Answer.{Answer}
-use Rattle.py_node.specs.declared.protocol.ProtocolTask.{ProtocolTask}
-use Rattle.py_node.specs.declared.task.Step.{Step}
-use Rattle.plain_machine.specs.Plain.{PlainWorld, ProtocolJob, DoIsTrue, DoIndex, DoWhole, DoLength, DoHint, Answered, Chose, Said, Ended}
-use Rattle.plain_machine.specs.World.{ref}
-use Rattle.plain_machine.specs.Row.{value, none}
-use Rattle.plain_machine.specs.Rows.{Pending}
-use Rattle.class_world.specs.declared.world.World.{World}
-use Rattle.class_world.specs.Reading.{Reading, protocol_job}
+use Rattle.proto_object.specs.Below.{ℤ, List, [], Result, Option, None, Err, option_map, Raised as Fault, TypeError, NoLength, PyObjectRef, Answer, ProtocolTask, Step, PlainWorld, ProtocolJob, DoIsTrue, DoIndex, DoWhole, DoLength, DoHint, Answered, Chose, Said, Ended, ref, value, none, Pending, World, Reading, protocol_job, Group, Claim, IsNode}
+use Rattle.std.specs.Prelude.{◌∷◌}
 use Rattle.class_world.specs.Rows as rows
-use Rattle.class_world.specs.Rows.{Group}
-use Rattle.class_world.specs.Sound.{Claim, IsNode}
 use Rattle.proto_object.specs.declared.proto_number.NumberKept.{NumberKept}
 use Rattle.proto_object.specs.declared.proto_number.NumberKept.TheVariants.{Pass, AfterBool, AfterLength, AfterIndex, AfterInt, AfterTruncate, AfterIndexOf, AfterLen, Measured, Expected, Called}
 use Rattle.proto_object.specs.ProtoNumber.Say.{number_job_say}

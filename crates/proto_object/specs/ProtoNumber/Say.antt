@@ -1,6 +1,5 @@
 -- What the rows say by which an object stands for a truth value, a whole number or a length.
-use Rattle.plain_machine.specs.Plain.{PlainWorld, ProtocolJob, DoIsTrue, DoIndex, DoWhole, DoLength, DoHint}
-use Rattle.plain_machine.specs.Row.{Row, end, elsewhere}
+use Rattle.proto_object.specs.Below.{PlainWorld, ProtocolJob, DoIsTrue, DoIndex, DoWhole, DoLength, DoHint, Row, end, elsewhere}
 use Rattle.proto_object.specs.ProtoNumber.Truth.{is_true_say}
 use Rattle.proto_object.specs.ProtoNumber.Numbers.{index_say, whole_say}
 use Rattle.proto_object.specs.ProtoNumber.Lengths.{length_say, hint_say}

@@ -1,15 +1,7 @@
 -- What the row of truth says.
-use Rattle.std.specs.Prelude.{ℕ, zero, suc, Bool, true, false, cond, not, eqb, [], ◌∷◌, Option, Some, None, option_map, Ok}
-use Rattle.py_node.specs.declared.refs.PyObjectRef.{PyObjectRef}
-use Rattle.py_node.specs.declared.raised.Cause.TheVariants.{BoolType}
-use Rattle.py_node.specs.declared.known.Known.TheVariants.{Bool as BoolName, Len}
-use Rattle.py_node.specs.Known.{known_text}
-use Rattle.plain_machine.specs.Plain.{PlainWorld, DoSpecial, DoLength, ToAttribute, ToProtocol, AsTruth, Ended, Said, Asks, Ends, Chose}
-use Rattle.plain_machine.specs.World.{class_at, datum_at, number_of}
-use Rattle.plain_machine.specs.Known.{the_bool}
-use Rattle.plain_machine.specs.Objects.{special_at}
-use Rattle.plain_machine.specs.Row.{Row, fork, end, fault, on_value, on_number}
-use Rattle.row_kit.specs.IntValues.{is_zero, truth_of}
+use Rattle.proto_object.specs.Below.{ℕ, zero, suc, Bool, true, false, cond, not, eqb, [], Option, Some, None, option_map, Ok, PyObjectRef, BoolType, Len, known_text, PlainWorld, DoSpecial, DoLength, ToAttribute, ToProtocol, AsTruth, Ended, Said, Asks, Ends, Chose, class_at, datum_at, number_of, the_bool, special_at, Row, fork, end, fault, on_value, on_number, is_zero, truth_of}
+use Rattle.std.specs.Prelude.{◌∷◌}
+use Rattle.py_node.specs.declared.known.Known.TheVariants.{Bool as BoolName}
 
 abbrev pub as_truth : Bool → Ended
 as_truth b = Ok (AsTruth b)

@@ -1,12 +1,9 @@
 //! How the item of a key is read, set and taken out.
 #![tactic(auto, unfolding(crate::specs::ProtoItems::Say::items_job_say, py_node::specs::BuiltIns::place_of))]
 
-ghost use Rattle.std.specs.Prelude.{◌≡◌, IfOk, Ok};
+ghost use Rattle.proto_object.specs.Below.{IfOk, Ok, is_attribute_error, of_ended, Leaves, Reading, Reads, plain, AllHold, Holds, IsNode};
+ghost use Rattle.std.specs.Prelude.{◌≡◌};
 ghost use Rattle.py_node.specs.declared.protocol.ProtocolTask.TheVariants as protocol;
-ghost use Rattle.plain_machine.specs.Row.{is_attribute_error};
-ghost use Rattle.class_world.specs.Claims.{of_ended, Leaves};
-ghost use Rattle.class_world.specs.Reading.{Reading, Reads, plain};
-ghost use Rattle.class_world.specs.Sound.{AllHold, Holds, IsNode};
 ghost use Rattle.proto_object.specs.ProtoItems.Items.{assigner, deleted, deleting, is_subscripted};
 ghost use Rattle.proto_object.specs.ProtoItems.Rows.{Begins, Resumes, of_items_kept};
 

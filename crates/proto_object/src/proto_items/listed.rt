@@ -1,10 +1,9 @@
 //! The list that a mapping's method gave, or a new one of its items.
 #![tactic(auto, unfolding(crate::specs::ProtoItems::Say::items_job_say, py_node::specs::BuiltIns::place_of))]
 
-ghost use Rattle.std.specs.Prelude.{◌≡◌, IfErr, IfOk, Ok};
+ghost use Rattle.proto_object.specs.Below.{IfErr, IfOk, Ok, of_ended, of_step, Leaves, AllHold, AreNodes, Holds, IsNode};
+ghost use Rattle.std.specs.Prelude.{◌≡◌};
 ghost use Rattle.py_node.specs.declared.protocol.ProtocolTask.TheVariants as protocol;
-ghost use Rattle.class_world.specs.Claims.{of_ended, of_step, Leaves};
-ghost use Rattle.class_world.specs.Sound.{AllHold, AreNodes, Holds, IsNode};
 ghost use Rattle.proto_object.specs.ProtoItems.Rows.{IsNoItem, Resumes, item_answer, of_items_kept};
 
 use crate::proto_items::ItemsKept;

@@ -1,13 +1,9 @@
 //! How a part of a sequence is read, set and taken out.
 #![tactic(auto, unfolding(crate::specs::ProtoItems::Say::items_job_say, py_node::specs::BuiltIns::place_of))]
 
-ghost use Rattle.std.specs.Prelude.{◌≡◌, IfOk};
-ghost use Rattle.py_node.specs.declared.refs.PyObjectRef.{PyObjectRef as Object};
+ghost use Rattle.proto_object.specs.Below.{IfOk, PyObjectRef as Object, PlainWorld, Said, Leaves, Reading, Reads, plain, Grows, Holds, IsNode};
+ghost use Rattle.std.specs.Prelude.{◌≡◌};
 ghost use Rattle.py_node.specs.declared.protocol.ProtocolTask.TheVariants as protocol;
-ghost use Rattle.plain_machine.specs.Plain.{PlainWorld, Said};
-ghost use Rattle.class_world.specs.Claims.{Leaves};
-ghost use Rattle.class_world.specs.Reading.{Reading, Reads, plain};
-ghost use Rattle.class_world.specs.Sound.{Grows, Holds, IsNode};
 ghost use Rattle.proto_object.specs.ProtoItems.Slices.{with_slice};
 ghost use Rattle.proto_object.specs.ProtoItems.Rows.{Begins, of_items_kept};
 

@@ -1,14 +1,10 @@
 //! A mapping's keys, values and items: a dict is listed at once, and another object by its method.
 #![tactic(auto, unfolding(crate::specs::ProtoItems::Say::items_job_say, py_node::specs::BuiltIns::place_of))]
 
-ghost use Rattle.std.specs.Prelude.{◌≡◌, IfOk, Ok};
-ghost use Rattle.py_node.specs.Known.{known_text};
+ghost use Rattle.proto_object.specs.Below.{IfOk, Ok, known_text, ToAttribute, DoLoadMethod, of_method, of_step, of_task, Leaves, Reading, Reads, task_of, AllHold, Holds, IsNode};
+ghost use Rattle.std.specs.Prelude.{◌≡◌};
 ghost use Rattle.py_node.specs.declared.protocol.ProtocolTask.TheVariants as protocol;
 ghost use Rattle.py_node.specs.declared.task.Answer.TheVariants as answer;
-ghost use Rattle.plain_machine.specs.Plain.{ToAttribute, DoLoadMethod};
-ghost use Rattle.class_world.specs.Claims.{of_method, of_step, of_task, Leaves};
-ghost use Rattle.class_world.specs.Reading.{Reading, Reads, task_of};
-ghost use Rattle.class_world.specs.Sound.{AllHold, Holds, IsNode};
 ghost use Rattle.proto_object.specs.ProtoItems.Rows.{Begins, Resumes, of_items_kept};
 
 use crate::proto_items::ItemsKept;

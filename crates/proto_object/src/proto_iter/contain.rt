@@ -1,10 +1,9 @@
 //! Whether an object contains another: its class says so, or else its items are asked.
 #![tactic(auto, unfolding(crate::specs::ProtoIter::Say::iter_job_say))]
 
-ghost use Rattle.std.specs.Prelude.{◌≡◌, IfOk, Ok};
+ghost use Rattle.proto_object.specs.Below.{IfOk, Ok, of_step, Leaves, AllHold, Holds, IsNode};
+ghost use Rattle.std.specs.Prelude.{◌≡◌};
 ghost use Rattle.py_node.specs.declared.protocol.ProtocolTask.TheVariants as protocol;
-ghost use Rattle.class_world.specs.Claims.{of_step, Leaves};
-ghost use Rattle.class_world.specs.Sound.{AllHold, Holds, IsNode};
 ghost use Rattle.proto_object.specs.ProtoIter.Rows.{Begins, Resumes, of_iter_kept};
 
 use crate::proto_iter::IterKept;

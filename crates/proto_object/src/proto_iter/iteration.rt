@@ -1,10 +1,9 @@
 //! How an iteration begins, its next item, and all its items.
 #![tactic(auto, unfolding(crate::specs::ProtoIter::Say::iter_job_say))]
 
-ghost use Rattle.std.specs.Prelude.{◌≡◌, IfErr, IfOk, Ok};
+ghost use Rattle.proto_object.specs.Below.{IfErr, IfOk, Ok, of_ended, of_step, Leaves, AllHold, AreNodes, Holds, IsNode};
+ghost use Rattle.std.specs.Prelude.{◌≡◌};
 ghost use Rattle.py_node.specs.declared.protocol.ProtocolTask.TheVariants as protocol;
-ghost use Rattle.class_world.specs.Claims.{of_ended, of_step, Leaves};
-ghost use Rattle.class_world.specs.Sound.{AllHold, AreNodes, Holds, IsNode};
 ghost use Rattle.proto_object.specs.ProtoIter.Rows.{Begins, IsItem, IsNoItem, Resumes, of_iter_kept};
 
 use crate::proto_iter::IterKept;

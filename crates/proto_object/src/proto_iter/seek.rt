@@ -1,11 +1,9 @@
 //! Searches: the items of an iteration are asked one after another whether they are equal to an object.
 #![tactic(auto, unfolding(crate::specs::ProtoIter::Say::iter_job_say))]
 
-ghost use Rattle.std.specs.Prelude.{◌≡◌, ◌+◌, ℕ, IfErr, IfOk, Ok, Err};
+ghost use Rattle.proto_object.specs.Below.{ℕ, IfErr, IfOk, Ok, Err, of_ended, of_step, ended_of, AllHold, Holds, IsNode};
+ghost use Rattle.std.specs.Prelude.{◌≡◌, ◌+◌};
 ghost use Rattle.py_node.specs.declared.protocol.ProtocolTask.TheVariants as protocol;
-ghost use Rattle.class_world.specs.Claims.{of_ended, of_step};
-ghost use Rattle.class_world.specs.Reading.{ended_of};
-ghost use Rattle.class_world.specs.Sound.{AllHold, Holds, IsNode};
 ghost use Rattle.proto_object.specs.ProtoIter.Iteration.{counted};
 ghost use Rattle.proto_object.specs.ProtoIter.Rows.{CountsAlike, IsNoTruth, Resumes, last_of, of_iter_kept, of_seeking, turn_of};
 

@@ -1,13 +1,7 @@
 //! What several rows ask: a special method, or a native of one object.
 
-ghost use Rattle.std.specs.Prelude.{◌≡◌, [], ◌∷◌, IfOk, IfSome};
-ghost use Rattle.py_node.specs.Known.{known_text};
-ghost use Rattle.plain_machine.specs.Native.{native_task};
-ghost use Rattle.plain_machine.specs.Objects.{special_at};
-ghost use Rattle.plain_machine.specs.Plain.{ToAttribute, DoSpecial};
-ghost use Rattle.class_world.specs.Sound.{AllHold, Holds, IsNode};
-ghost use Rattle.class_world.specs.Claims.{of_task};
-ghost use Rattle.class_world.specs.Reading.{Reading, Reads, plain, task_of};
+ghost use Rattle.proto_object.specs.Below.{[], IfOk, IfSome, known_text, native_task, special_at, ToAttribute, DoSpecial, AllHold, Holds, IsNode, of_task, Reading, Reads, plain, task_of};
+ghost use Rattle.std.specs.Prelude.{◌≡◌, ◌∷◌};
 
 use class_world::World;
 use class_world::args::alone;

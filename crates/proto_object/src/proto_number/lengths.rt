@@ -1,11 +1,9 @@
 //! The length of an object, and the length that it is expected to have.
 #![tactic(auto, unfolding(crate::specs::ProtoNumber::Say::number_job_say))]
 
-ghost use Rattle.std.specs.Prelude.{◌≡◌, IfOk, Ok};
+ghost use Rattle.proto_object.specs.Below.{IfOk, Ok, of_ended, of_step, Leaves, Reading, Reads, ended_of, plain, AllHold, Holds, IsNode};
+ghost use Rattle.std.specs.Prelude.{◌≡◌};
 ghost use Rattle.py_node.specs.declared.protocol.ProtocolTask.TheVariants as protocol;
-ghost use Rattle.class_world.specs.Claims.{of_ended, of_step, Leaves};
-ghost use Rattle.class_world.specs.Reading.{Reading, Reads, ended_of, plain};
-ghost use Rattle.class_world.specs.Sound.{AllHold, Holds, IsNode};
 ghost use Rattle.proto_object.specs.ProtoNumber.Lengths.{hinted, is_type_error, length_slot, or_given, tested};
 ghost use Rattle.proto_object.specs.ProtoNumber.Rows.{Begins, Resumes, of_number_kept};
 

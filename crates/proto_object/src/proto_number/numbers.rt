@@ -1,16 +1,11 @@
 //! The whole number that an object stands for.
 #![tactic(auto, unfolding(crate::specs::ProtoNumber::Say::number_job_say))]
 
-ghost use Rattle.std.specs.Prelude.{◌≡◌, ◌||◌, Ok, IfOk, is_some};
-ghost use Rattle.py_node.specs.Known.{known_text};
+ghost use Rattle.proto_object.specs.Below.{Ok, IfOk, is_some, known_text, special_at, slot_at, of_step, Leaves, Reading, Reads, plain, AllHold, Holds, IsNode};
+ghost use Rattle.std.specs.Prelude.{◌≡◌, ◌||◌};
 ghost use Rattle.py_node.specs.declared.entry.SlotId.TheVariants as slot;
 ghost use Rattle.py_node.specs.declared.known.Known.TheVariants as known;
 ghost use Rattle.py_node.specs.declared.protocol.ProtocolTask.TheVariants as protocol;
-ghost use Rattle.plain_machine.specs.Objects.{special_at};
-ghost use Rattle.plain_machine.specs.World.{slot_at};
-ghost use Rattle.class_world.specs.Claims.{of_step, Leaves};
-ghost use Rattle.class_world.specs.Reading.{Reading, Reads, plain};
-ghost use Rattle.class_world.specs.Sound.{AllHold, Holds, IsNode};
 ghost use Rattle.proto_object.specs.ProtoNumber.Numbers.{has_index, truncated_by, whole_by};
 ghost use Rattle.proto_object.specs.ProtoNumber.Rows.{Begins, Starts, Resumes, of_number_kept};
 

@@ -1,11 +1,7 @@
 //! The whole number that a text spells.
 
-ghost use Rattle.std.specs.Prelude.{◌≡◌, IfOk};
-ghost use Rattle.std.specs.Char.{is_ascii_digit};
-ghost use Rattle.std.specs.List.{list_all};
-ghost use Rattle.plain_machine.specs.World.{datum_at};
-ghost use Rattle.class_world.specs.Rows.{EndsAs, LeavesEnd};
-ghost use Rattle.class_world.specs.Sound.{Holds, IsNode};
+ghost use Rattle.proto_object.specs.Below.{IfOk, is_ascii_digit, list_all, datum_at, EndsAs, LeavesEnd, Holds, IsNode};
+ghost use Rattle.std.specs.Prelude.{◌≡◌};
 ghost use Rattle.proto_object.specs.ProtoNumber.Numbers.{is_numeral, spelled, text_number, without_sign};
 
 use class_world::World;

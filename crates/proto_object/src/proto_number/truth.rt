@@ -1,14 +1,10 @@
 //! The truth value of an object.
 #![tactic(auto, unfolding(crate::specs::ProtoNumber::Say::number_job_say, py_node::specs::BuiltIns::place_of))]
 
-ghost use Rattle.std.specs.Prelude.{◌≡◌, Ok, None};
-ghost use Rattle.py_node.specs.Known.{known_text};
+ghost use Rattle.proto_object.specs.Below.{Ok, None, known_text, special_at, of_step, Reading, plain, AllHold, Holds, IsNode};
+ghost use Rattle.std.specs.Prelude.{◌≡◌};
 ghost use Rattle.py_node.specs.declared.known.Known.TheVariants as known;
 ghost use Rattle.py_node.specs.declared.protocol.ProtocolTask.TheVariants as protocol;
-ghost use Rattle.plain_machine.specs.Objects.{special_at};
-ghost use Rattle.class_world.specs.Claims.{of_step};
-ghost use Rattle.class_world.specs.Reading.{Reading, plain};
-ghost use Rattle.class_world.specs.Sound.{AllHold, Holds, IsNode};
 ghost use Rattle.proto_object.specs.ProtoNumber.Truth.{bool_at, truth_asked};
 ghost use Rattle.proto_object.specs.ProtoNumber.Rows.{Begins, Starts, Resumes, of_number_kept};
 

@@ -1,16 +1,6 @@
 -- A quotient and what it leaves, as a pair that is made.
-use Rattle.std.proofs.Common.{◌≡◌, [], ◌∷◌, Ok, sym, ap, ◌∙◌}
-use Rattle.std.specs.Prelude.{ℤ}
-use Rattle.py_node.specs.declared.refs.PyObjectRef.{PyObjectRef}
-use Rattle.py_node.specs.declared.task.Answer.TheVariants.{Value}
-use Rattle.plain_machine.specs.Plain.{ANumber, ATuple, PlainWorld, Said, Ends}
-use Rattle.plain_machine.specs.World.{with_node, next_node}
-use Rattle.plain_machine.specs.Row.{value}
-use Rattle.class_world.specs.declared.world.World.{World}
-use Rattle.class_world.specs.Reading.{Reading, Reads, plain}
-use Rattle.class_world.specs.Rows.{EndsAs}
-use Rattle.proto_ops.specs.NativeNumbers.Numbers.{quotient, remainder}
-use Rattle.proto_ops.specs.NativeNumbers.Say.{divided, divided_by, pair_made}
+use Rattle.proto_ops.proofs.Below.{[], Ok, sym, ap, ◌∙◌, ℤ, PyObjectRef, Value, ANumber, ATuple, PlainWorld, Said, Ends, with_node, next_node, value, World, Reading, Reads, plain, EndsAs, quotient, remainder, divided, divided_by, pair_made}
+use Rattle.std.proofs.Common.{◌≡◌, ◌∷◌}
 
 abbrev Made : World → World → ℤ → PyObjectRef → Type 0
 Made old new z r = (t : Reading) → (plain t new ≡ with_node (plain t old) 4 (ANumber z)) × (r ≡ next_node (plain t old) 4) × (Reads t new → Reads t old)

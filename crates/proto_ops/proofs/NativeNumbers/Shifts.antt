@@ -1,8 +1,6 @@
 -- What is shifted to the left, and what is out of range then.
-use Rattle.std.proofs.Common.{◌≡◌, ℕ, zero, suc, ℤ, pos, negsuc, neg_ℤ, ◌*◌, ◌*ℤ◌, ◌^◌, ◌≤◌, ◌<◌, arith, refl}
-use Rattle.std.specs.Int.{w128}
-use Rattle.std.specs.Int.RustNames.{FitsSigned}
-use Rattle.std.proofs.Math.Pow.{pow_mono}
+use Rattle.proto_ops.proofs.Below.{ℕ, zero, suc, pos, negsuc, neg_ℤ, arith, refl, w128, FitsSigned, pow_mono}
+use Rattle.std.proofs.Common.{◌≡◌, ℤ, ◌*◌, ◌*ℤ◌, ◌^◌, ◌≤◌, ◌<◌}
 
 -- a power of two below the range's end
 pub small_power : (n : ℕ) → n < 127 → FitsSigned w128 (pos (2 ^ n))

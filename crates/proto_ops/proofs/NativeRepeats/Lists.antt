@@ -1,10 +1,6 @@
 -- Lists that are repeated.
-use Rattle.std.proofs.Common.{◌≡◌, ℕ, zero, suc, ◌+◌, ◌<◌, List, [], ◌∷◌, ◌++◌, length, All, refl, sym, ap, ◌∙◌, subst, arith, append_assoc}
-use Rattle.std.proofs.lemmas.List.Elements.{All-append}
-use Rattle.std.specs.List.{repeat}
-use Rattle.py_node.specs.declared.refs.PyObjectRef.{PyObjectRef}
-use Rattle.class_world.specs.Held.{Held}
-use Rattle.class_world.specs.Sound.{AreNodes, Holds}
+use Rattle.proto_ops.proofs.Below.{ℕ, zero, suc, List, [], length, All, refl, sym, ap, ◌∙◌, subst, arith, append_assoc, All-append, repeat, PyObjectRef, Held, AreNodes, Holds}
+use Rattle.std.proofs.Common.{◌≡◌, ◌+◌, ◌<◌, ◌∷◌, ◌++◌}
 
 module _ {A : Type 0} where
   pub repeat-none : (n : ℕ) (xs : List A) → length xs ≡ 0 → repeat n xs ≡ []

@@ -1,21 +1,6 @@
 -- What is repeated, where it is known what an object holds.
-use Rattle.std.proofs.Common.{◌≡◌, List, Some, Ok, Err, sym, ap, ◌∙◌}
-use Rattle.std.specs.Global.{Vec}
-use Rattle.std.specs.Prelude.{ℤ, Result, IfErr, IfOk}
-use Rattle.py_node.specs.declared.entry.ListNative.{ListNative}
-use Rattle.py_node.specs.declared.entry.NativeEntry.{NativeEntry}
-use Rattle.py_node.specs.declared.entry.NativeEntry.TheVariants.{OfList, OfStr, OfTuple}
-use Rattle.py_node.specs.declared.entry.StrNative.{StrNative}
-use Rattle.py_node.specs.declared.entry.TupleNative.{TupleNative}
-use Rattle.py_node.specs.declared.raised.Raised.{Raised as Fault}
-use Rattle.py_node.specs.declared.refs.PyObjectRef.{PyObjectRef}
-use Rattle.py_node.specs.Tree.{Text}
-use Rattle.plain_machine.specs.Known.{the_str, the_tuple}
-use Rattle.plain_machine.specs.Plain.{AList, AText, ATuple, PlainWorld, Said, Ends}
-use Rattle.plain_machine.specs.World.{datum_at}
-use Rattle.row_kit.specs.Repeats.{list_repeated, native_repeat, repeated, sequence_for, with_times}
-use Rattle.row_kit.specs.Say.{object_made}
-use Rattle.proto_ops.specs.NativeRepeats.Say.{ended_with, list_stood, repeat_stood}
+use Rattle.proto_ops.proofs.Below.{List, Some, Ok, Err, sym, ap, ◌∙◌, Vec, ℤ, Result, IfErr, IfOk, ListNative, NativeEntry, OfList, OfStr, OfTuple, StrNative, TupleNative, Raised as Fault, PyObjectRef, Text, the_str, the_tuple, AList, AText, ATuple, PlainWorld, Said, Ends, datum_at, list_repeated, native_repeat, repeated, sequence_for, with_times, object_made, ended_with, list_stood, repeat_stood}
+use Rattle.std.proofs.Common.{◌≡◌}
 
 -- a text is repeated
 pub text-says : (u : PlainWorld) (m : StrNative) (o : PyObjectRef) (z : ℤ) (x : Text) (s : Said) → datum_at u o ≡ Some (AText x) → with_times u z x (λ y. object_made u the_str (AText y)) ≡ s → native_repeat u (OfStr m) o z ≡ s

@@ -1,29 +1,10 @@
 -- The steps of a repetition by name.
-use Rattle.std.proofs.Common.{◌≡◌, List, [], ◌∷◌, Option, Some, None, Ok, Err, refl, sym, ap, ◌∙◌, subst}
-use Rattle.std.specs.Global.{Vec}
-use Rattle.std.specs.Prelude.{ℤ, Result}
-use Rattle.py_node.specs.declared.entry.NativeEntry.{NativeEntry}
+use Rattle.proto_ops.proofs.Below.{List, [], Option, Some, None, Ok, Err, refl, sym, ap, ◌∙◌, subst, Vec, ℤ, Result, NativeEntry, Raised as Fault, RepeatTooLong, PyObjectRef, PyStrInterned, Answer, Value, Ask, End, PlainWorld, Bindings, Answered, ReadObjects, DoIndex, ToNative, ToProtocol, Told, Asks, Ends, Row, elsewhere, value, within_index, datum_at, number_of, World, Reading, bindings, plain, EndsAs, Steps, as_said, with_read, RepeatKept, Repeated, Enters, repeat_stands, entry_of, kind_of, repeat_by_kind, repeat_by_name, repeat_job_say, repeat_rest, repeat_stood}
+use Rattle.std.proofs.Common.{◌≡◌, ◌∷◌}
 use Rattle.py_node.specs.declared.protocol.ProtocolTask.TheVariants as protocol
-use Rattle.py_node.specs.declared.raised.Raised.{Raised as Fault}
-use Rattle.py_node.specs.declared.raised.Cause.TheVariants.{RepeatTooLong}
-use Rattle.py_node.specs.declared.refs.PyObjectRef.{PyObjectRef}
-use Rattle.py_node.specs.declared.refs.PyStrInterned.{PyStrInterned}
-use Rattle.py_node.specs.declared.task.Answer.{Answer}
-use Rattle.py_node.specs.declared.task.Answer.TheVariants.{Value}
-use Rattle.py_node.specs.declared.task.Step.TheVariants.{Ask, End}
 use Rattle.py_node.specs.declared.task.Task.TheVariants as task
-use Rattle.plain_machine.specs.Plain.{PlainWorld, Bindings, Answered, ReadObjects, DoIndex, ToNative, ToProtocol, Told, Asks, Ends}
-use Rattle.plain_machine.specs.Row.{Row, elsewhere, value, within_index}
-use Rattle.plain_machine.specs.World.{datum_at, number_of}
-use Rattle.class_world.specs.declared.world.World.{World}
-use Rattle.class_world.specs.Reading.{Reading, bindings, plain}
-use Rattle.class_world.specs.Rows.{EndsAs, Steps}
-use Rattle.row_kit.specs.Asking.{as_said, with_read}
-use Rattle.proto_ops.specs.declared.native_repeats.RepeatKept.{RepeatKept}
-use Rattle.proto_ops.specs.declared.native_repeats.kind.Repeated.{Repeated}
 use Rattle.proto_ops.specs.declared.native_repeats.kind.Repeated.TheVariants as repeated
-use Rattle.proto_ops.specs.NativeRepeats.Rows.{Enters, Resumes, repeat_stands}
-use Rattle.proto_ops.specs.NativeRepeats.Say.{entry_of, kind_of, repeat_by_kind, repeat_by_name, repeat_job_say, repeat_rest, repeat_stood}
+use Rattle.proto_ops.specs.NativeRepeats.Rows.{Resumes}
 
 -- the kind of a kind's native is that kind
 pub kind-of-entry : (k : Repeated) → kind_of (entry_of k) ≡ Some k

@@ -1,10 +1,6 @@
 -- Whether two objects are one is not asked.
-use Rattle.std.proofs.Common.{◌≡◌, true, false, cond, Ok, ap}
-use Rattle.std.specs.Prelude.{eqb}
-use Rattle.py_node.specs.declared.refs.PyObjectRef.{PyObjectRef}
-use Rattle.plain_machine.specs.Plain.{PlainWorld, AsTruth, DoBoolEq, DoIdEq, ToCompare, Told}
-use Rattle.plain_machine.specs.Row.{ask, end}
-use Rattle.proto_ops.specs.ProtoCompare.Say.{compare_job_say}
+use Rattle.proto_ops.proofs.Below.{true, false, cond, Ok, ap, eqb, PyObjectRef, PlainWorld, AsTruth, DoBoolEq, DoIdEq, ToCompare, Told, ask, end, compare_job_say}
+use Rattle.std.proofs.Common.{◌≡◌}
 
 pub others-ask : (u : PlainWorld) (a b : PyObjectRef) (more : Told) → eqb a.0 b.0 ≡ false → compare_job_say u (DoIdEq a b) more ≡ ask u (ToCompare (DoBoolEq a b)) (end u) more
 unfolding compare_job_say

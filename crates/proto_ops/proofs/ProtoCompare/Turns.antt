@@ -1,18 +1,8 @@
 -- How a comparison goes on where one operand's class says nothing.
-use Rattle.std.proofs.Common.{◌≡◌, [], ◌∷◌, true, false, cond, Ok, refl, ap}
-use Rattle.py_node.specs.declared.refs.PyObjectRef.{PyObjectRef}
+use Rattle.proto_ops.proofs.Below.{[], true, false, cond, Ok, refl, ap, PyObjectRef, Value, Truth, PyComparisonOp, Ask, PlainWorld, DoCompare, Answered, Chose, Told, end, value, is_not_implemented, or_else, plain, World, First, Second, Ordered, Equal, swapped, by_identity, compare_job_say, left_asked, right_asked}
+use Rattle.std.proofs.Common.{◌≡◌, ◌∷◌}
 use Rattle.py_node.specs.declared.protocol.CompareTask.TheVariants as compare
-use Rattle.py_node.specs.declared.task.Answer.TheVariants.{Value, Truth}
-use Rattle.py_node.specs.declared.task.PyComparisonOp.{PyComparisonOp}
-use Rattle.py_node.specs.declared.task.Step.TheVariants.{Ask}
 use Rattle.py_node.specs.declared.task.Task.TheVariants as task
-use Rattle.plain_machine.specs.Plain.{PlainWorld, DoCompare, Answered, Chose, Told}
-use Rattle.plain_machine.specs.Row.{end, value, is_not_implemented, or_else}
-use Rattle.class_world.specs.Reading.{plain}
-use Rattle.class_world.specs.declared.world.World.{World}
-use Rattle.proto_ops.specs.declared.proto_compare.CompareKept.TheVariants.{First, Second, Ordered, Equal}
-use Rattle.proto_ops.specs.ProtoCompare.Comparisons.{swapped}
-use Rattle.proto_ops.specs.ProtoCompare.Say.{by_identity, compare_job_say, left_asked, right_asked}
 use Rattle.proto_ops.specs.ProtoCompare.Rows.{Resumes}
 
 left-then : (u : PlainWorld) (a b x : PyObjectRef) (o : PyComparisonOp) (more : Told) → is_not_implemented x ≡ true

@@ -1,11 +1,6 @@
 -- What natives reckon with whole numbers.
-use Rattle.std.specs.Prelude.{ℕ, suc, ℤ, int_lt, pos, negsuc, ◌+◌, ◌%◌, ◌*ℤ◌, ◌-ℤ◌, ◌^◌, neg_ℤ, unsigned_abs, cond, Option, Some, None, Result, Ok, nat_lt, min}
-use Rattle.std.specs.Int.{w128, int_bit_not, int_div_euclid, int_pow, int_rem_euclid, int_shr}
-use Rattle.py_node.specs.declared.raised.Raised.{Raised as Fault}
-use Rattle.py_node.specs.declared.raised.Cause.TheVariants.{IntRange, ZeroDivisor, NegativeExponent, NegativeShift}
-use Rattle.plain_machine.specs.Row.{fault}
-use Rattle.row_kit.specs.Say.{in_range}
-use Rattle.row_kit.specs.IntValues.{is_zero}
+use Rattle.proto_ops.specs.Below.{ℕ, suc, ℤ, int_lt, pos, negsuc, neg_ℤ, unsigned_abs, cond, Option, Some, None, Result, Ok, nat_lt, min, w128, int_bit_not, int_div_euclid, int_pow, int_rem_euclid, int_shr, Raised as Fault, IntRange, ZeroDivisor, NegativeExponent, NegativeShift, fault, in_range, is_zero}
+use Rattle.std.specs.Prelude.{◌+◌, ◌%◌, ◌*ℤ◌, ◌-ℤ◌, ◌^◌}
 
 abbrev pub negated : ℤ → Result ℤ Fault
 negated z = in_range (neg_ℤ z)

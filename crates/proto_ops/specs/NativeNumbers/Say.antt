@@ -1,30 +1,11 @@
 -- What the natives of None, NotImplemented, numbers and truth values say.
-use Rattle.std.specs.Prelude.{ℕ, ℤ, int_lt, Bool, true, false, cond, not, eqb, ◌==◌, ◌&&◌, ◌||◌, codes, length, List, [], ◌∷◌, Option, Some, None, Result, Ok, Err}
-use Rattle.std.specs.Ordering.{int_eq}
-use Rattle.std.specs.Fmt.{signed_decimal}
-use Rattle.std.specs.Int.{w128, int_bit_and, int_bit_or, int_bit_xor}
-use Rattle.py_node.specs.declared.refs.PyObjectRef.{PyObjectRef}
-use Rattle.py_node.specs.declared.raised.Raised.{Raised as Fault}
-use Rattle.py_node.specs.declared.raised.Cause.TheVariants.{ArgCount, SelfType}
-use Rattle.py_node.specs.declared.entry.ArithmeticNative.{ArithmeticNative}
+use Rattle.proto_ops.specs.Below.{ℕ, ℤ, int_lt, Bool, true, false, cond, not, eqb, codes, length, List, [], Option, Some, None, Result, Ok, Err, int_eq, signed_decimal, w128, int_bit_and, int_bit_or, int_bit_xor, PyObjectRef, Raised as Fault, ArgCount, SelfType, ArithmeticNative, BitNative, CompareNative, FixedNative, NumberNative, fixed_none, fixed_not_implemented, Text, ANumber, ATuple, PlainWorld, Bindings, Said, Ends, datum_at, number_of, with_node, next_node, the_int, the_tuple, value, truth, not_implemented, fault, elsewhere, with_one, with_two, with_three, int_made, number_told, text_made, numbers_of, with_lone_number, with_number_and, with_numbers, is_zero, number_hash, as_int, truth_of}
+use Rattle.std.specs.Prelude.{◌==◌, ◌&&◌, ◌||◌, ◌∷◌}
 use Rattle.py_node.specs.declared.entry.ArithmeticNative.TheVariants as arithmetic
-use Rattle.py_node.specs.declared.entry.BitNative.{BitNative}
 use Rattle.py_node.specs.declared.entry.BitNative.TheVariants as bits
-use Rattle.py_node.specs.declared.entry.CompareNative.{CompareNative}
 use Rattle.py_node.specs.declared.entry.CompareNative.TheVariants as compare
-use Rattle.py_node.specs.declared.entry.FixedNative.{FixedNative}
 use Rattle.py_node.specs.declared.entry.FixedNative.TheVariants as fixed
-use Rattle.py_node.specs.declared.entry.NumberNative.{NumberNative}
 use Rattle.py_node.specs.declared.entry.NumberNative.TheVariants as number
-use Rattle.py_node.specs.BuiltIns.{fixed_none, fixed_not_implemented}
-use Rattle.py_node.specs.Tree.{Text}
-use Rattle.plain_machine.specs.Plain.{ANumber, ATuple, PlainWorld, Bindings, Said, Ends}
-use Rattle.plain_machine.specs.World.{datum_at, number_of, with_node, next_node}
-use Rattle.plain_machine.specs.Known.{the_int, the_tuple}
-use Rattle.plain_machine.specs.Row.{value, truth, not_implemented, fault, elsewhere}
-use Rattle.plain_machine.specs.Takes.{with_one, with_two, with_three}
-use Rattle.row_kit.specs.Say.{int_made, number_told, text_made, numbers_of, with_lone_number, with_number_and, with_numbers}
-use Rattle.row_kit.specs.IntValues.{is_zero, number_hash, as_int, truth_of}
 use Rattle.proto_ops.specs.NativeNumbers.Numbers.{negated, absolute, inverted, difference, product, quotient, remainder, power, right_shifted, left_shifted}
 
 -- the natives of None and NotImplemented, each of which is for its own object alone

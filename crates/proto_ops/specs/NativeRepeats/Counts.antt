@@ -1,9 +1,6 @@
 -- How often something is repeated, where its items can be counted.
-use Rattle.std.specs.Prelude.{ℕ, zero, suc, ℤ, ◌^◌, ◌-◌, ◌/◌, cond, nat_lt, Result, Ok}
-use Rattle.py_node.specs.declared.raised.Raised.{Raised as Fault}
-use Rattle.py_node.specs.declared.raised.Cause.TheVariants.{RepeatTooLong}
-use Rattle.plain_machine.specs.Row.{fault}
-use Rattle.row_kit.specs.Repeats.{times}
+use Rattle.proto_ops.specs.Below.{ℕ, zero, suc, ℤ, cond, nat_lt, Result, Ok, Raised as Fault, RepeatTooLong, fault, times}
+use Rattle.std.specs.Prelude.{◌^◌, ◌-◌, ◌/◌}
 
 -- no index is above this
 abbrev pub most_index : ℕ

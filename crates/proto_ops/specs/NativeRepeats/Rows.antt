@@ -1,21 +1,8 @@
 -- What the contracts of repetitions by name say.
-use Rattle.std.specs.Prelude.{List, [], ◌∷◌, Result}
-use Rattle.py_node.specs.declared.refs.PyObjectRef.{PyObjectRef}
-use Rattle.py_node.specs.declared.refs.PyStrInterned.{PyStrInterned}
-use Rattle.py_node.specs.declared.raised.Raised.{Raised as Fault}
+use Rattle.proto_ops.specs.Below.{List, [], Result, PyObjectRef, PyStrInterned, Raised as Fault, NativeEntry, OfList, Answer, Task, Step, PlainTask, ToNative, ReadObjects, Pending, fresh, World, Reading, bindings, task_of, Group, Claim, AreNodes, Holding, IsNode}
+use Rattle.std.specs.Prelude.{◌∷◌}
 use Rattle.py_node.specs.declared.built_in.BuiltIn.TheVariants as built_in
-use Rattle.py_node.specs.declared.entry.NativeEntry.{NativeEntry}
-use Rattle.py_node.specs.declared.entry.NativeEntry.TheVariants.{OfList}
-use Rattle.py_node.specs.declared.task.Answer.{Answer}
-use Rattle.py_node.specs.declared.task.Task.{Task}
-use Rattle.py_node.specs.declared.task.Step.{Step}
-use Rattle.plain_machine.specs.Plain.{PlainTask, ToNative, ReadObjects}
-use Rattle.plain_machine.specs.Rows.{Pending, fresh}
-use Rattle.class_world.specs.declared.world.World.{World}
-use Rattle.class_world.specs.Reading.{Reading, bindings, task_of}
 use Rattle.class_world.specs.Rows as rows
-use Rattle.class_world.specs.Rows.{Group}
-use Rattle.class_world.specs.Sound.{Claim, AreNodes, Holding, IsNode}
 use Rattle.proto_ops.specs.declared.native_repeats.RepeatKept.{RepeatKept}
 use Rattle.proto_ops.specs.NativeRepeats.Say.{entry_of, repeat_job_say}
 

@@ -1,21 +1,9 @@
 -- What the natives say that repeat a text, a tuple or a list by name.
-use Rattle.std.specs.Prelude.{ℤ, Bool, List, [], ◌∷◌, Option, Some, None, is_some, Result, Ok, Err}
-use Rattle.std.specs.Global.{Vec}
-use Rattle.py_node.specs.declared.refs.PyObjectRef.{PyObjectRef}
+use Rattle.proto_ops.specs.Below.{ℤ, Bool, List, [], Option, Some, None, is_some, Result, Ok, Err, Vec, PyObjectRef, NativeEntry, OfStr, OfTuple, OfList, Raised as Fault, ArgCount, SelfType, Datum, AList, PlainWorld, Bindings, DoIndex, PlainTask, ToNative, ToProtocol, Ended, ReadObjects, Said, Asks, Ends, datum_at, Row, end, fault, elsewhere, with_two, list_repeated, native_repeat, on_count, sequence_for, with_times, as_said, with_read, tuple_made}
+use Rattle.std.specs.Prelude.{◌∷◌}
 use Rattle.py_node.specs.declared.entry.StrNative.TheVariants as str
 use Rattle.py_node.specs.declared.entry.TupleNative.TheVariants as tuple
 use Rattle.py_node.specs.declared.entry.ListNative.TheVariants as list
-use Rattle.py_node.specs.declared.entry.NativeEntry.{NativeEntry}
-use Rattle.py_node.specs.declared.entry.NativeEntry.TheVariants.{OfStr, OfTuple, OfList}
-use Rattle.py_node.specs.declared.raised.Raised.{Raised as Fault}
-use Rattle.py_node.specs.declared.raised.Cause.TheVariants.{ArgCount, SelfType}
-use Rattle.plain_machine.specs.Plain.{Datum, AList, PlainWorld, Bindings, DoIndex, PlainTask, ToNative, ToProtocol, Ended, ReadObjects, Said, Asks, Ends}
-use Rattle.plain_machine.specs.World.{datum_at}
-use Rattle.plain_machine.specs.Row.{Row, end, fault, elsewhere}
-use Rattle.plain_machine.specs.Takes.{with_two}
-use Rattle.row_kit.specs.Repeats.{list_repeated, native_repeat, on_count, sequence_for, with_times}
-use Rattle.row_kit.specs.Asking.{as_said, with_read}
-use Rattle.row_kit.specs.GiveContainers.{tuple_made}
 use Rattle.proto_ops.specs.declared.native_repeats.kind.Repeated.{Repeated}
 use Rattle.proto_ops.specs.declared.native_repeats.kind.Repeated.TheVariants as repeated
 

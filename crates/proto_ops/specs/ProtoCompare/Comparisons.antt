@@ -1,11 +1,5 @@
 -- The six comparisons.
-use Rattle.std.specs.Prelude.{Bool, true, false, Option, Some, None}
-use Rattle.std.specs.declared.cmp.Ordering.{Ordering}
-use Rattle.std.specs.declared.cmp.Ordering.TheVariants.{Less, Equal, Greater}
-use Rattle.std.specs.Ordering.{is_eq, is_ne, is_lt, is_le, is_ge, is_gt}
-use Rattle.py_node.specs.declared.task.PyComparisonOp.{PyComparisonOp}
-use Rattle.py_node.specs.declared.task.PyComparisonOp.TheVariants.{Lt, Gt, Ne, Eq, Le, Ge}
-use Rattle.py_node.specs.declared.known.Known.{Known}
+use Rattle.proto_ops.specs.Below.{Bool, true, false, Option, Some, None, Ordering, Less, Equal, Greater, is_eq, is_ne, is_lt, is_le, is_ge, is_gt, PyComparisonOp, Lt, Gt, Ne, Eq, Le, Ge, Known}
 use Rattle.py_node.specs.declared.known.Known.TheVariants as known
 
 -- the comparison that says the same of the operands the other way round

@@ -1,20 +1,7 @@
 -- What the contracts of the rows of comparisons say.
-use Rattle.std.specs.Prelude.{ℕ, Bool, false, cond, List, [], ◌∷◌, Result, Ok}
-use Rattle.py_node.specs.declared.raised.Raised.{Raised as Fault}
-use Rattle.py_node.specs.declared.refs.PyObjectRef.{PyObjectRef}
-use Rattle.py_node.specs.declared.protocol.CompareTask.{CompareTask}
-use Rattle.py_node.specs.declared.task.Answer.{Answer}
-use Rattle.py_node.specs.declared.task.PyComparisonOp.TheVariants.{Eq}
-use Rattle.py_node.specs.declared.task.Step.{Step}
-use Rattle.plain_machine.specs.Plain.{CompareJob, DoCompare, DoRichBool, DoBoolEq, DoSeqLt, AsTruth, Answered, Chose}
-use Rattle.plain_machine.specs.Row.{value, not_implemented}
-use Rattle.plain_machine.specs.Rows.{Pending}
-use Rattle.plain_machine.specs.World.{ref}
-use Rattle.class_world.specs.declared.world.World.{World}
-use Rattle.class_world.specs.Reading.{Reading, compare_job}
+use Rattle.proto_ops.specs.Below.{ℕ, Bool, false, cond, List, [], Result, Ok, Raised as Fault, PyObjectRef, CompareTask, Answer, Eq, Step, CompareJob, DoCompare, DoRichBool, DoBoolEq, DoSeqLt, AsTruth, Answered, Chose, value, not_implemented, Pending, ref, World, Reading, compare_job, Group, Claim, IsNode}
+use Rattle.std.specs.Prelude.{◌∷◌}
 use Rattle.class_world.specs.Rows as rows
-use Rattle.class_world.specs.Rows.{Group}
-use Rattle.class_world.specs.Sound.{Claim, IsNode}
 use Rattle.proto_ops.specs.declared.proto_compare.CompareKept.{CompareKept}
 use Rattle.proto_ops.specs.declared.proto_compare.CompareKept.TheVariants.{Pass, First, Second, Counts, Ordered, Equal}
 use Rattle.proto_ops.specs.ProtoCompare.Say.{compare_job_say}

@@ -1,26 +1,9 @@
 -- What the rows of comparisons say.
-use Rattle.std.specs.Prelude.{ℕ, zero, suc, Bool, true, false, cond, not, eqb, ◌&&◌, [], ◌∷◌, Option, Some, None, Ok}
-use Rattle.py_node.specs.declared.refs.PyObjectRef.{PyObjectRef}
-use Rattle.py_node.specs.declared.raised.Cause.TheVariants.{UnsupportedOperand}
-use Rattle.py_node.specs.declared.entry.CompareNative.{CompareNative}
+use Rattle.proto_ops.specs.Below.{ℕ, zero, suc, Bool, true, false, cond, not, eqb, [], Option, Some, None, Ok, PyObjectRef, UnsupportedOperand, CompareNative, ObjectNative, NativeEntry, OfObject, Compare, Richcompare, SlotEntry, Native, PyComparisonOp, Lt, Gt, Ne, Eq, Le, Ge, known_text, is_sub, PlainWorld, CompareJob, DoCompare, DoCmp, DoRichBool, DoBoolEq, DoIdEq, DoSeqLt, DoSeqGt, DoSpecial, DoIsTrue, ToAttribute, ToCompare, ToProtocol, AsTruth, AsMaybe, Ended, Said, class_at, slot_at, native_task, fixed_false, fixed_true, Row, start, ask, pass, end, value, truth, fault, or_else, on_value, on_truth, choose}
+use Rattle.std.specs.Prelude.{◌&&◌, ◌∷◌}
 use Rattle.py_node.specs.declared.entry.CompareNative.TheVariants as compare
-use Rattle.py_node.specs.declared.entry.ObjectNative.{ObjectNative}
 use Rattle.py_node.specs.declared.entry.ObjectNative.TheVariants as object
-use Rattle.py_node.specs.declared.entry.NativeEntry.{NativeEntry}
-use Rattle.py_node.specs.declared.entry.NativeEntry.TheVariants.{OfObject, Compare}
-use Rattle.py_node.specs.declared.entry.SlotId.TheVariants.{Richcompare}
-use Rattle.py_node.specs.declared.entry.SlotEntry.{SlotEntry}
-use Rattle.py_node.specs.declared.entry.SlotEntry.TheVariants.{Native}
-use Rattle.py_node.specs.declared.task.PyComparisonOp.{PyComparisonOp}
-use Rattle.py_node.specs.declared.task.PyComparisonOp.TheVariants.{Lt, Gt, Ne, Eq, Le, Ge}
-use Rattle.py_node.specs.Known.{known_text}
-use Rattle.class_model.specs.Class.{is_sub}
-use Rattle.plain_machine.specs.Plain.{PlainWorld, CompareJob, DoCompare, DoCmp, DoRichBool, DoBoolEq, DoIdEq, DoSeqLt, DoSeqGt, DoSpecial, DoIsTrue, ToAttribute, ToCompare, ToProtocol, AsTruth, AsMaybe, Ended, Said}
-use Rattle.plain_machine.specs.World.{class_at, slot_at}
-use Rattle.plain_machine.specs.Native.{native_task}
-use Rattle.py_node.specs.BuiltIns.{fixed_false, fixed_true}
 use Rattle.proto_ops.specs.ProtoCompare.Comparisons.{swapped, method_of}
-use Rattle.plain_machine.specs.Row.{Row, start, ask, pass, end, value, truth, fault, or_else, on_value, on_truth, choose}
 
 -- whether the second class is another one than the first, and derives from it
 abbrev pub is_heir : PlainWorld → Option ℕ → Option ℕ → Bool

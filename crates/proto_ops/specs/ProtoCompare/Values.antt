@@ -1,8 +1,5 @@
 -- What a comparison of two objects gives.
-use Rattle.std.specs.Prelude.{Bool, not, codes}
-use Rattle.py_node.specs.declared.task.PyComparisonOp.{PyComparisonOp}
-use Rattle.py_node.specs.declared.task.PyComparisonOp.TheVariants.{Lt, Gt, Ne, Eq, Le, Ge}
-use Rattle.py_node.specs.Tree.{Text}
+use Rattle.proto_ops.specs.Below.{Bool, not, codes, PyComparisonOp, Lt, Gt, Ne, Eq, Le, Ge, Text}
 use Rattle.proto_ops.specs.declared.proto_compare.values.PyArithmeticValue.{PyArithmeticValue}
 use Rattle.proto_ops.specs.declared.proto_compare.values.PyArithmeticValue.TheVariants.{Implemented, NotImplemented}
 use Rattle.proto_ops.specs.declared.proto_compare.values.ComparisonOperator.{ComparisonOperator}

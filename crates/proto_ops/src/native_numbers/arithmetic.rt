@@ -1,11 +1,7 @@
 //! The natives that reckon with two numbers.
 
-ghost use Rattle.std.specs.Prelude.{◌≡◌, ℤ, IfOk, IfErr};
-ghost use Rattle.plain_machine.specs.Plain.{Said, Ends};
-ghost use Rattle.class_world.specs.Claims.{of_ended};
-ghost use Rattle.class_world.specs.Reading.{Reading, bindings, ended_of, plain};
-ghost use Rattle.class_world.specs.Sound.{AllHold, AreNodes, Holds, IsNode};
-ghost use Rattle.class_world.specs.Rows.{EndsAs, LeavesEnd};
+ghost use Rattle.proto_ops.specs.Below.{ℤ, IfOk, IfErr, Said, Ends, of_ended, Reading, bindings, ended_of, plain, AllHold, AreNodes, Holds, IsNode, EndsAs, LeavesEnd};
+ghost use Rattle.std.specs.Prelude.{◌≡◌};
 ghost use Rattle.proto_ops.specs.NativeNumbers.Say.{arithmetic_by, arithmetic_say, with_operands, with_powers, divided, pair_made};
 
 use crate::native_numbers::reckon::{

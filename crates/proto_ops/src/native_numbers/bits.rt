@@ -1,11 +1,8 @@
 //! The natives on the bits of two numbers, or on two truth values.
 
-ghost use Rattle.std.specs.Prelude.{◌≡◌, IfOk};
-ghost use Rattle.class_world.specs.Reading.{bindings};
-ghost use Rattle.class_world.specs.Sound.{AreNodes, Holds, IsNode};
-ghost use Rattle.class_world.specs.Rows.{EndsAs, LeavesEnd};
+ghost use Rattle.proto_ops.specs.Below.{IfOk, bindings, AreNodes, Holds, IsNode, EndsAs, LeavesEnd, truth_of};
+ghost use Rattle.std.specs.Prelude.{◌≡◌};
 ghost use Rattle.proto_ops.specs.NativeNumbers.Say.{bits_by, bits_of, bits_say, truth_by};
-ghost use Rattle.row_kit.specs.IntValues.{truth_of};
 
 use crate::native_numbers::reckon::{left_shifted, right_shifted};
 use class_world::World;

@@ -1,10 +1,7 @@
 //! The natives of None and NotImplemented.
 
-ghost use Rattle.std.specs.Prelude.{◌≡◌, IfOk, Err, IfSome, IfNone};
-ghost use Rattle.plain_machine.specs.Plain.{PlainWorld, Said, Ends};
-ghost use Rattle.class_world.specs.Reading.{Reading, bindings};
-ghost use Rattle.class_world.specs.Sound.{AreNodes, Holds};
-ghost use Rattle.class_world.specs.Rows.{EndsAs, LeavesEnd};
+ghost use Rattle.proto_ops.specs.Below.{IfOk, Err, IfSome, IfNone, PlainWorld, Said, Ends, Reading, bindings, AreNodes, Holds, EndsAs, LeavesEnd};
+ghost use Rattle.std.specs.Prelude.{◌≡◌};
 ghost use Rattle.proto_ops.specs.NativeNumbers.Say.{fixed_first, fixed_of, fixed_say, with_fixed};
 
 use class_world::takes::one;

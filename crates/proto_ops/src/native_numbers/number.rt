@@ -1,11 +1,7 @@
 //! The natives of one number.
 
-ghost use Rattle.std.specs.Prelude.{IfOk};
-ghost use Rattle.class_world.specs.Reading.{bindings};
-ghost use Rattle.class_world.specs.Sound.{AreNodes, Holds, IsNode};
-ghost use Rattle.class_world.specs.Rows.{EndsAs, LeavesEnd};
+ghost use Rattle.proto_ops.specs.Below.{IfOk, bindings, AreNodes, Holds, IsNode, EndsAs, LeavesEnd, as_int};
 ghost use Rattle.proto_ops.specs.NativeNumbers.Say.{number_by, number_say};
-ghost use Rattle.row_kit.specs.IntValues.{as_int};
 
 use crate::native_numbers::reckon::{absolute, inverted, negated};
 use class_world::World;

@@ -1,7 +1,7 @@
 //! What natives reckon with whole numbers.
 
-ghost use Rattle.std.specs.Prelude.{◌≡◌, ◌<◌, ◌≤◌, ◌^◌, ◌*ℤ◌, ◌≤ℤ◌, ◌<ℤ◌, neg_ℤ, unsigned_abs, pos, SomeIff, FitsSigned};
-ghost use Rattle.std.specs.Int.{IsNonZero, int_rem_euclid, w128};
+ghost use Rattle.proto_ops.specs.Below.{neg_ℤ, unsigned_abs, pos, SomeIff, FitsSigned, IsNonZero, int_rem_euclid, w128};
+ghost use Rattle.std.specs.Prelude.{◌≡◌, ◌<◌, ◌≤◌, ◌^◌, ◌*ℤ◌, ◌≤ℤ◌, ◌<ℤ◌};
 ghost use Rattle.proto_ops.specs.NativeNumbers.Numbers.{in_range_of, negated, absolute, inverted, difference, product, floor_quotient, floor_remainder, quotient, remainder, counted, power, right_shifted, left_places, left_shifted};
 
 use py_node::{Cause, Raised};

@@ -1,14 +1,8 @@
 //! Repetition by name.
 
-ghost use Rattle.std.specs.Prelude.{◌≡◌, [], ◌∷◌, Err, IfErr, IfOk, IfSome, Ok, option_map};
+ghost use Rattle.proto_ops.specs.Below.{[], Err, IfErr, IfOk, IfSome, Ok, option_map, Asks, Bindings, DoIndex, Ends, ReadObjects, ToProtocol, with_two, datum_at, Leaves, Reading, plain, AllHold, AreNodes, Holds, IsNode, sequence_for};
+ghost use Rattle.std.specs.Prelude.{◌≡◌, ◌∷◌};
 ghost use Rattle.py_node.specs.declared.task.Answer.TheVariants as answer;
-ghost use Rattle.plain_machine.specs.Plain.{Asks, Bindings, DoIndex, Ends, ReadObjects, ToProtocol};
-ghost use Rattle.plain_machine.specs.Takes.{with_two};
-ghost use Rattle.plain_machine.specs.World.{datum_at};
-ghost use Rattle.class_world.specs.Claims.{Leaves};
-ghost use Rattle.class_world.specs.Reading.{Reading, plain};
-ghost use Rattle.class_world.specs.Sound.{AllHold, AreNodes, Holds, IsNode};
-ghost use Rattle.row_kit.specs.Repeats.{sequence_for};
 ghost use Rattle.proto_ops.specs.NativeRepeats.Rows.{Resumes, of_repeat_kept};
 ghost use Rattle.proto_ops.specs.NativeRepeats.Say.{entry_of, repeat_by_name, stood};
 

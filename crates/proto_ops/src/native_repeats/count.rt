@@ -1,10 +1,7 @@
 //! How often something is repeated.
 
-ghost use Rattle.std.specs.Prelude.{◌≡◌, ◌*◌, ℤ, Err, None, Some, IfErr, IfOk, cond, nat_le};
-ghost use Rattle.py_node.specs.declared.raised.Cause.TheVariants.{RepeatTooLong};
-ghost use Rattle.plain_machine.specs.Plain.{Ends, PlainWorld, Told};
-ghost use Rattle.plain_machine.specs.Row.{Row, most_items, within_index};
-ghost use Rattle.row_kit.specs.Repeats.{times};
+ghost use Rattle.proto_ops.specs.Below.{ℤ, Err, None, Some, IfErr, IfOk, cond, nat_le, RepeatTooLong, Ends, PlainWorld, Told, Row, most_items, within_index, times};
+ghost use Rattle.std.specs.Prelude.{◌≡◌, ◌*◌};
 ghost use Rattle.proto_ops.specs.NativeRepeats.Counts.{repeat_checked};
 
 use class_world::limits::is_within_limit;

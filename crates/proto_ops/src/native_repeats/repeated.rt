@@ -1,16 +1,9 @@
 //! What a repeated text, tuple or list is.
 
-ghost use Rattle.std.specs.Prelude.{◌≡◌, Err, IfErr, IfOk, List, string_bytes};
-ghost use Rattle.std.specs.List.{repeat};
+ghost use Rattle.proto_ops.specs.Below.{Err, IfErr, IfOk, List, string_bytes, repeat, PyObjectRef as Object, Text, Ends, PlainWorld, Said, Held, EndsAs, LeavesEnd, AllHold, AreNodes, Holding, Holds, IsNode, list_repeated, native_repeat, with_times};
+ghost use Rattle.std.specs.Prelude.{◌≡◌};
 ghost use Rattle.py_node.specs.declared.built_in.BuiltIn.TheVariants.{List as ListClass};
 ghost use Rattle.py_node.specs.declared.entry.NativeEntry.TheVariants as entry;
-ghost use Rattle.py_node.specs.declared.refs.PyObjectRef.{PyObjectRef as Object};
-ghost use Rattle.py_node.specs.Tree.{Text};
-ghost use Rattle.plain_machine.specs.Plain.{Ends, PlainWorld, Said};
-ghost use Rattle.class_world.specs.Held.{Held};
-ghost use Rattle.class_world.specs.Rows.{EndsAs, LeavesEnd};
-ghost use Rattle.class_world.specs.Sound.{AllHold, AreNodes, Holding, Holds, IsNode};
-ghost use Rattle.row_kit.specs.Repeats.{list_repeated, native_repeat, with_times};
 ghost use Rattle.proto_ops.specs.NativeRepeats.Rows.{of_place};
 ghost use Rattle.proto_ops.specs.NativeRepeats.Say.{ended_with, repeat_stood};
 

@@ -1,8 +1,7 @@
 //! The six comparisons.
 
-ghost use Rattle.std.specs.Prelude.{◌≡◌, Bool, None};
-ghost use Rattle.std.specs.declared.cmp.Ordering.{Ordering as TheOrdering};
-ghost use Rattle.py_node.specs.declared.task.PyComparisonOp.{PyComparisonOp as Comparison};
+ghost use Rattle.proto_ops.specs.Below.{Bool, None, Ordering as TheOrdering, PyComparisonOp as Comparison};
+ghost use Rattle.std.specs.Prelude.{◌≡◌};
 ghost use Rattle.proto_ops.specs.ProtoCompare.Comparisons.{AsksEqual, decided_by_equal, holds_by, method_of, swapped, turned};
 
 use py_node::{Known, PyComparisonOp};

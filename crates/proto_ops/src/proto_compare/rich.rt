@@ -1,11 +1,7 @@
 //! What a comparison gives: both operands' classes are asked in turn.
 
-ghost use Rattle.std.specs.Prelude.{◌≡◌, Ok, IfOk};
-ghost use Rattle.class_world.specs.Claims.{of_compare_task, of_step, Leaves};
-ghost use Rattle.class_world.specs.Reading.{Reading, plain};
-ghost use Rattle.class_world.specs.Sound.{AllHold, Holds, IsNode};
-ghost use Rattle.plain_machine.specs.Row.{is_not_implemented};
-ghost use Rattle.plain_machine.specs.World.{class_at};
+ghost use Rattle.proto_ops.specs.Below.{Ok, IfOk, of_compare_task, of_step, Leaves, Reading, plain, AllHold, Holds, IsNode, is_not_implemented, class_at};
+ghost use Rattle.std.specs.Prelude.{◌≡◌};
 ghost use Rattle.py_node.specs.declared.protocol.CompareTask.TheVariants as compare;
 ghost use Rattle.proto_ops.specs.ProtoCompare.Comparisons.{swapped};
 ghost use Rattle.proto_ops.specs.ProtoCompare.Say.{built_in_native, is_heir, native_for, object_native};

@@ -1,8 +1,7 @@
 //! Whether comparisons hold, and what two items decide of the order of what has them.
 
-ghost use Rattle.std.specs.Prelude.{◌≡◌, Ok};
-ghost use Rattle.class_world.specs.Claims.{of_ended, of_step};
-ghost use Rattle.class_world.specs.Sound.{AllHold, Holds, IsNode};
+ghost use Rattle.proto_ops.specs.Below.{Ok, of_ended, of_step, AllHold, Holds, IsNode};
+ghost use Rattle.std.specs.Prelude.{◌≡◌};
 ghost use Rattle.py_node.specs.declared.protocol.CompareTask.TheVariants as compare;
 ghost use Rattle.proto_ops.specs.ProtoCompare.Say.{truth_of};
 ghost use Rattle.proto_ops.specs.ProtoCompare.Rows.{Begins, Resumes, of_compare_kept};

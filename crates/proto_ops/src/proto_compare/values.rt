@@ -1,6 +1,7 @@
 //! What a comparison of two objects gives, and what two equal objects decide.
 
-ghost use Rattle.std.specs.Prelude.{◌≡◌, Bool, eqb};
+ghost use Rattle.proto_ops.specs.Below.{Bool, eqb};
+ghost use Rattle.std.specs.Prelude.{◌≡◌};
 ghost use Rattle.proto_ops.specs.ProtoCompare.Comparisons.{AsksEqual, decided_by_equal};
 ghost use Rattle.proto_ops.specs.ProtoCompare.Values.{by_equal, comparison_of, token_of};
 ghost use Rattle.proto_ops.specs.declared.proto_compare.values.PyArithmeticValue.{PyArithmeticValue as Value};

@@ -1,14 +1,6 @@
 -- What the words say of a signature is what the definition finds.
-use Rattle.std.proofs.Common.{◌≡◌, ℕ, zero, suc, ◌+◌, ◌<◌, ◌≤◌, inl, inr, Bool, true, false, cond, eqb, [], ◌∷◌, ◌++◌, length, take, drop, Option, Some, None, refl, sym, ap, ◌∙◌, arith}
-use Rattle.std.specs.Prelude.{slice_index_or, option_map, IfSome, IfNone}
-use Rattle.std.specs.List.{starts_with}
-use Rattle.std.proofs.lemmas.Bool.Decides.{Decides-eqb, eqb_tells}
-use Rattle.std.proofs.lemmas.List.{append_assoc}
-use Rattle.std.proofs.lemmas.Slice.Eq.{starts_is}
-use Rattle.std.proofs.Math.Seq.{drop-append_seam}
-use Rattle.py_node.specs.Tree.{Text}
-use Rattle.class_model.specs.Name.{last_part}
-use Rattle.row_kit.specs.OfSignatures.Signature.{StandsAt, opening, ending, up_to_ending, signature_after, signature_of, IsSignature, HasNoSignature}
+use Rattle.row_kit.proofs.Below.{ℕ, zero, suc, inl, inr, Bool, true, false, cond, eqb, [], length, take, drop, Option, Some, None, refl, sym, ap, ◌∙◌, arith, slice_index_or, option_map, IfSome, IfNone, starts_with, Decides-eqb, eqb_tells, append_assoc, starts_is, drop-append_seam, Text, last_part, StandsAt, opening, ending, up_to_ending, signature_after, signature_of, IsSignature, HasNoSignature}
+use Rattle.std.proofs.Common.{◌≡◌, ◌+◌, ◌<◌, ◌≤◌, ◌∷◌, ◌++◌}
 
 -- whether a text begins with another
 tests : (x y : Text) → (starts_with eqb x y ≡ true → x ≡ y ++ drop (length y) x) × ((rest : Text) → x ≡ y ++ rest → starts_with eqb x y ≡ true)

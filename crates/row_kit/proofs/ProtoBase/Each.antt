@@ -1,10 +1,6 @@
 -- Rows that go over the items of an iteration, when some of them were told.
-use Rattle.std.proofs.Common.{◌≡◌, List, [], ◌∷◌, ◌++◌, refl, sym, ap, ◌∙◌}
-use Rattle.std.proofs.lemmas.List.{append_assoc, append-nil}
-use Rattle.py_node.specs.declared.refs.PyObjectRef.{PyObjectRef}
-use Rattle.plain_machine.specs.Plain.{PlainWorld, Answered, Told}
-use Rattle.plain_machine.specs.Row.{Row, value}
-use Rattle.row_kit.specs.ProtoBase.Each.{all_items, items_told}
+use Rattle.row_kit.proofs.Below.{List, [], refl, sym, ap, ◌∙◌, append_assoc, append-nil, PyObjectRef, PlainWorld, Answered, Told, Row, value, all_items, items_told}
+use Rattle.std.proofs.Common.{◌≡◌, ◌∷◌, ◌++◌}
 
 -- more may be told after some items
 pub told-more : (vs : List PyObjectRef) (told more : Told) → items_told vs told ++ more ≡ items_told vs (told ++ more)

@@ -1,9 +1,6 @@
 -- Objects that are there, one by one and as a list.
-use Rattle.std.proofs.Common.{ℕ, zero, suc, ◌<◌, List, [], ◌∷◌, ◌++◌, length, arith, get_or}
-use Rattle.py_node.specs.declared.refs.PyObjectRef.{PyObjectRef}
-use Rattle.class_world.specs.Held.{Held}
-use Rattle.class_world.specs.Sound.{IsNode, AreNodes, Holds, AllHold, of_each, of_node_ref}
-use Rattle.class_world.proofs.Claims.{no-nodes}
+use Rattle.row_kit.proofs.Below.{ℕ, zero, suc, List, [], length, arith, get_or, PyObjectRef, Held, IsNode, AreNodes, Holds, AllHold, of_each, of_node_ref, no-nodes}
+use Rattle.std.proofs.Common.{◌<◌, ◌∷◌, ◌++◌}
 
 pub first_node : (w : Held) (r : PyObjectRef) (rs : List PyObjectRef) → Holds w (IsNode r) → Holds w (AreNodes rs) → Holds w (AreNodes (r ∷ rs))
 unfolding Holds

@@ -1,9 +1,6 @@
 -- The signature that a native's text for readers begins with.
-use Rattle.std.specs.Prelude.{◌≡◌, ℕ, ◌+◌, ◌<◌, ◌≤◌, cond, eqb, [], ◌∷◌, ◌++◌, length, take, drop, codes, Option, Some, None, option_map}
-use Rattle.std.specs.List.{starts_with}
-use Rattle.py_node.specs.Tree.{Text}
-use Rattle.class_model.specs.Name.{last_part}
-use Rattle.class_table.specs.Name.{IsLastPart}
+use Rattle.row_kit.specs.Below.{ℕ, cond, eqb, [], length, take, drop, codes, Option, Some, None, option_map, starts_with, Text, last_part, IsLastPart}
+use Rattle.std.specs.Prelude.{◌≡◌, ◌+◌, ◌<◌, ◌≤◌, ◌∷◌, ◌++◌}
 
 -- a text stands in another one at a place
 abbrev pub StandsAt : Text → Text → ℕ → Type 0

@@ -1,14 +1,6 @@
 -- What a slot's entry asks, and tests of an object's class, which rows of protocols share.
-use Rattle.std.specs.Prelude.{ℕ, Bool, false, eqb, ◌||◌, List, [], ◌∷◌, Option, Some, None}
-use Rattle.py_node.specs.declared.refs.PyObjectRef.{PyObjectRef}
-use Rattle.py_node.specs.declared.entry.SlotEntry.{SlotEntry}
-use Rattle.py_node.specs.declared.entry.SlotEntry.TheVariants.{Native}
-use Rattle.py_node.specs.declared.known.Known.{Known}
-use Rattle.py_node.specs.Known.{known_text}
-use Rattle.plain_machine.specs.Known.{the_tuple, the_list}
-use Rattle.plain_machine.specs.Native.{native_task}
-use Rattle.plain_machine.specs.Plain.{PlainWorld, DoSpecial, PlainTask, ToAttribute}
-use Rattle.plain_machine.specs.World.{class_at}
+use Rattle.row_kit.specs.Below.{ℕ, Bool, false, eqb, List, [], Option, Some, None, PyObjectRef, SlotEntry, Native, Known, known_text, the_tuple, the_list, native_task, PlainWorld, DoSpecial, PlainTask, ToAttribute, class_at}
+use Rattle.std.specs.Prelude.{◌||◌, ◌∷◌}
 
 -- what a slot's entry asks: its native, or the special method, of an object and what follows it
 abbrev pub entered : SlotEntry → Known → PyObjectRef → List PyObjectRef → PlainTask

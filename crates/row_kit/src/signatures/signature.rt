@@ -1,6 +1,7 @@
 //! The signature that a native's text for readers begins with.
 
-ghost use Rattle.std.specs.Prelude.{◌≡◌, IfSome, IfNone, option_map};
+ghost use Rattle.row_kit.specs.Below.{IfSome, IfNone, option_map};
+ghost use Rattle.std.specs.Prelude.{◌≡◌};
 ghost use Rattle.row_kit.specs.OfSignatures.Signature.{IsSignature, HasNoSignature, IsSignatureOf, HasNoSignatureOf, opening, signature_of, StandsAt};
 
 use class_table::last_part;

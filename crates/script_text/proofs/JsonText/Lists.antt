@@ -1,8 +1,6 @@
 -- Lists that are read item by item.
-use Rattle.std.proofs.Common.{◌≡◌, ℕ, suc, ◌+◌, ◌<◌, List, [], ◌∷◌, ◌++◌, length, get_or, drop, map, Option, Some, None, option_map, refl, ap, sym, ◌∙◌, append_assoc, add-one}
-use Rattle.std.proofs.Math.Seq.{drop-cons}
-use Rattle.std.proofs.lemmas.List.{map-append}
-use Rattle.script_text.specs.JsonText.Texts.{of_two}
+use Rattle.script_text.proofs.Below.{ℕ, suc, List, [], length, get_or, drop, map, Option, Some, None, option_map, refl, ap, sym, ◌∙◌, append_assoc, add-one, drop-cons, map-append, of_two}
+use Rattle.std.proofs.Common.{◌≡◌, ◌+◌, ◌<◌, ◌∷◌, ◌++◌}
 
 -- what is left, with what was found before it
 abbrev pub onto : {A : Type 0} → List A → Option (List A) → Option (List A)

@@ -1,16 +1,7 @@
 -- The value of a text.
-use Rattle.std.proofs.Common.{◌≡◌, ℕ, List, Bool, true, false, cond, Some, None, refl}
-use Rattle.std.proofs.lemmas.Str.{is_utf8-from_IsUtf8, IsUtf8-from_is_utf8}
-use Rattle.std.specs.Str.{IsUtf8, is_utf8}
-use Rattle.serde_json.specs.Data.{Data}
-use Rattle.serde_json.specs.Read.{read}
-use Rattle.script_text.specs.declared.json_text.items.Unread.{Unread}
+use Rattle.script_text.proofs.Below.{ℕ, List, Bool, true, false, cond, Some, None, refl, is_utf8-from_IsUtf8, IsUtf8-from_is_utf8, IsUtf8, is_utf8, Data, read, Unread, ScriptError, Shape, Script, fault_of, value_of}
+use Rattle.std.proofs.Common.{◌≡◌}
 use Rattle.script_text.specs.declared.json_text.items.Unread.TheVariants as unread
-use Rattle.script_text.specs.declared.json_text.error.ScriptError.{ScriptError}
-use Rattle.script_text.specs.declared.json_text.error.ScriptError.TheVariants.{Shape}
-use Rattle.script_text.specs.declared.json_text.error.ScriptFault.TheVariants.{Script}
-use Rattle.script_text.specs.JsonText.Fault.{fault_of}
-use Rattle.script_text.specs.JsonText.Json.{value_of}
 
 pub value-of_text : (bytes : List ℕ) (d : Data) → IsUtf8 bytes → read bytes ≡ Some d → value_of bytes ≡ Some d
 unfolding value_of

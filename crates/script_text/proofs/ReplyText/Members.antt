@@ -1,12 +1,6 @@
 -- One text more, where texts are joined.
-use Rattle.std.proofs.Common.{◌≡◌, ℕ, ◌+◌, ◌<◌, cond, eqb, List, [], ◌∷◌, ◌++◌, map, length, get_or, take, sym, ap, ◌∙◌, arith, append_assoc, append-nil}
-use Rattle.std.specs.Prelude.{codes}
-use Rattle.std.proofs.lemmas.Grind.{common_steps}
-use Rattle.std.proofs.lemmas.List.{map-append, map_more, length-map}
-use Rattle.py_node.specs.Tree.{Text}
-use Rattle.plain_machine.specs.Escapes.{escaped}
-use Rattle.plain_machine.specs.Lines.{joined}
-use Rattle.plain_machine.specs.ClassLines.{class_member}
+use Rattle.script_text.proofs.Below.{ℕ, cond, eqb, List, [], map, length, get_or, take, sym, ap, ◌∙◌, arith, append_assoc, append-nil, codes, common_steps, map-append, map_more, length-map, Text, escaped, joined, class_member}
+use Rattle.std.proofs.Common.{◌≡◌, ◌+◌, ◌<◌, ◌∷◌, ◌++◌}
 
 pub joined_push : (between : Text) (texts : List Text) (text : Text) → joined between (texts ++ text ∷ []) ≡ joined between texts ++ (cond (eqb (length texts) 0) [] between ++ text)
 joined_push between [] text = append-nil text

@@ -1,5 +1,6 @@
 -- How long a list is not.
-use Rattle.std.specs.Prelude.{◌≡◌, ◌⊎◌, List, [], ◌∷◌}
+use Rattle.script_text.specs.Below.{List, []}
+use Rattle.std.specs.Prelude.{◌≡◌, ◌⊎◌, ◌∷◌}
 
 -- it has another length than one
 abbrev pub IsNotOne : {A : Type 0} → List A → Type 0

@@ -1,9 +1,6 @@
 -- The JSON value of a text, or why it is none.
-use Rattle.std.specs.Prelude.{ℕ, ◌||◌, codes, List, Bool, false, not, if◌then◌else◌, Option, Some, None, is_some, Result, Ok, Err}
-use Rattle.std.specs.Str.{is_utf8}
-use Rattle.serde_json.specs.Data.{Data, null, boolean, number, string, array, object, Items, no_items, item, Members, no_members, member}
-use Rattle.serde_json.specs.Find.{as_i64}
-use Rattle.serde_json.specs.Read.{read}
+use Rattle.script_text.specs.Below.{ℕ, codes, List, Bool, false, not, Option, Some, None, is_some, Result, Ok, Err, is_utf8, Data, null, boolean, number, string, array, object, Items, no_items, item, Members, no_members, member, as_i64, read}
+use Rattle.std.specs.Prelude.{◌||◌, if◌then◌else◌}
 use Rattle.script_text.specs.declared.json_text.error.ScriptError.{ScriptError}
 use Rattle.script_text.specs.declared.json_text.error.ScriptError.TheVariants.{NotJson, Number, NoCommand, Shape}
 

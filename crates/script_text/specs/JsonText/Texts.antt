@@ -1,8 +1,6 @@
 -- The strings of a list.
-use Rattle.std.specs.Prelude.{List, [], ◌∷◌, Option, Some, None, option_map}
-use Rattle.serde_json.specs.Data.{Items, no_items, item}
-use Rattle.serde_json.specs.Find.{as_str}
-use Rattle.py_node.specs.Tree.{Text}
+use Rattle.script_text.specs.Below.{List, [], Option, Some, None, option_map, Items, no_items, item, as_str, Text}
+use Rattle.std.specs.Prelude.{◌∷◌}
 
 -- f of two parts, where both are there
 abbrev pub of_two : {A B C : Type 0} → (A → B → C) → Option A → Option B → Option C

@@ -1,7 +1,7 @@
 //! The items of a list, one by one.
 
-ghost use Rattle.std.specs.Prelude.{◌≡◌, List, [], ◌∷◌, IfOk, IfErr};
-ghost use Rattle.serde_json.specs.declared.value.Value.{Value as JsonValue};
+ghost use Rattle.script_text.specs.Below.{List, [], IfOk, IfErr, Value as JsonValue};
+ghost use Rattle.std.specs.Prelude.{◌≡◌, ◌∷◌};
 ghost use Rattle.script_text.specs.JsonText.Items.{IsNotOne, IsUnderTwo, IsNotTwo, IsUnderThree, IsNotThree};
 
 use serde_json::Value;

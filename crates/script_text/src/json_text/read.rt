@@ -1,7 +1,7 @@
 //! The JSON value of a text.
 
-ghost use Rattle.std.specs.Prelude.{◌≡◌, Some, None, IfOk, Ok, Err};
-ghost use Rattle.serde_json.specs.View.{view, items_view, members_view};
+ghost use Rattle.script_text.specs.Below.{Some, None, IfOk, Ok, Err, view, items_view, members_view};
+ghost use Rattle.std.specs.Prelude.{◌≡◌};
 ghost use Rattle.script_text.specs.declared.json_text.error.ScriptError.{ScriptError as Refusal};
 ghost use Rattle.script_text.specs.JsonText.Json.{json_of, value_of, has_bad_number, any_bad, any_bad_member};
 

@@ -1,9 +1,7 @@
 //! The strings of a list.
 
-ghost use Rattle.std.specs.Prelude.{◌≡◌, Some, None, Err, IfOk, string_bytes};
-ghost use Rattle.serde_json.specs.Find.{as_str};
-ghost use Rattle.serde_json.specs.View.{view, items_view};
-ghost use Rattle.py_node.specs.Tree.{texts_of};
+ghost use Rattle.script_text.specs.Below.{Some, None, Err, IfOk, string_bytes, as_str, view, items_view, texts_of};
+ghost use Rattle.std.specs.Prelude.{◌≡◌};
 ghost use Rattle.script_text.specs.JsonText.Texts.{texts_in};
 
 use crate::json_text::items::Unread;

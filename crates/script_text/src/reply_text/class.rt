@@ -1,10 +1,7 @@
 //! The lines of classes, whole or piece by piece.
 
-ghost use Rattle.std.specs.Prelude.{◌≡◌, ◌++◌, map, codes, OnOk};
-ghost use Rattle.std.specs.List.{flat_map};
-ghost use Rattle.plain_machine.specs.Escapes.{escaped};
-ghost use Rattle.plain_machine.specs.Lines.{joined, end_of_line};
-ghost use Rattle.plain_machine.specs.ClassLines.{class_head, class_member, slots_head, slot_word, class_lines};
+ghost use Rattle.script_text.specs.Below.{map, codes, OnOk, flat_map, escaped, joined, end_of_line, class_head, class_member, slots_head, slot_word, class_lines};
+ghost use Rattle.std.specs.Prelude.{◌≡◌, ◌++◌};
 
 use crate::reply_text::escape::push_escaped;
 use py_node::OutOfMemory;

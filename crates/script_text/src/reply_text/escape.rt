@@ -1,9 +1,7 @@
 //! Names and texts as they are written, each on one line.
 
-ghost use Rattle.std.specs.Prelude.{◌≡◌, ◌++◌, ◌<◌, OnOk, IfOk, string_bytes};
-ghost use Rattle.std.specs.Char.{digit_char};
-ghost use Rattle.std.specs.Str.{IsUtf8};
-ghost use Rattle.plain_machine.specs.Escapes.{escaped, escaped_byte, quoted};
+ghost use Rattle.script_text.specs.Below.{OnOk, IfOk, string_bytes, digit_char, IsUtf8, escaped, escaped_byte, quoted};
+ghost use Rattle.std.specs.Prelude.{◌≡◌, ◌++◌, ◌<◌};
 
 use py_node::OutOfMemory;
 use std::alloc::Global;

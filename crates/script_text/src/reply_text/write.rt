@@ -1,8 +1,7 @@
 //! The lines of replies, as they are written.
 
-ghost use Rattle.std.specs.Prelude.{◌≡◌, ◌++◌, map, codes, OnOk, IfOk, string_bytes};
-ghost use Rattle.py_node.specs.Replies.{reply_of, reply_answer_of, started_of};
-ghost use Rattle.plain_machine.specs.Lines.{joined, call_line, answer_line, reply_lines, replies_text};
+ghost use Rattle.script_text.specs.Below.{map, codes, OnOk, IfOk, string_bytes, reply_of, reply_answer_of, started_of, joined, call_line, answer_line, reply_lines, replies_text};
+ghost use Rattle.std.specs.Prelude.{◌≡◌, ◌++◌};
 
 use crate::reply_text::escape::push_escaped;
 use py_node::{BodyCall, OutOfMemory, Reply, ReplyAnswer};

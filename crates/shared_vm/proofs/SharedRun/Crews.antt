@@ -1,27 +1,8 @@
 -- Seats that begin, that meet the first, and that did what they were to do.
-use Rattle.std.proofs.Common.{◌≡◌, ℕ, zero, suc, ◌+◌, ◌==◌, ◌<◌, ◌≤◌, false, List, [], ◌∷◌, ◌++◌, length, get_or, map, take, drop, inl, inr, refl, sym, ap, ap₂, ◌∙◌, subst, arith}
-use Rattle.std.specs.Prelude.{min, vec_len, slice_get, zip, Some, Vec}
-use Rattle.std.specs.List.{All}
-use Rattle.std.specs.Vec.{with_items}
-use Rattle.std.specs.declared.alloc.Global.{Global}
-use Rattle.std.proofs.lemmas.Bool.{cases_lt}
-use Rattle.std.proofs.lemmas.List.{append-nil, get_or_append_left, get_or_push, length_push, get_or-map, length-map, map_push, with_items_is}
-use Rattle.std.proofs.lemmas.List.Elements.{All-head, All-same, All-rest, filter-append}
-use Rattle.std.proofs.lemmas.Option.{get_or_from_slice_get}
-use Rattle.std.proofs.lemmas.Slice.Zip.{length-zip, get_or-zip}
+use Rattle.shared_vm.proofs.Below.{ℕ, zero, suc, false, List, [], length, get_or, map, take, drop, inl, inr, refl, sym, ap, ap₂, ◌∙◌, subst, arith, min, vec_len, slice_get, zip, Vec, All, with_items, Global, cases_lt, append-nil, get_or_append_left, get_or_push, length_push, get_or-map, length-map, map_push, with_items_is, All-head, All-same, All-rest, filter-append, get_or_from_slice_get, length-zip, get_or-zip, Command, Tree, Turn, MOST_TURNS, turns_by, TableId, Known, IsFree, IsSameSeat, fresh_seat, trees_in, Entry, MayPerform, Stays, IsTurnOf, commands_in, Performed, Worker, Each, IsReady, AllReady, Worked, Did, AllDid, session_trees}
+use Rattle.std.proofs.Common.{◌≡◌, ◌+◌, ◌==◌, ◌<◌, ◌≤◌, ◌∷◌, ◌++◌}
+use Rattle.std.specs.Prelude.{Some}
 use mathlib.Core.List.{IsPrefix}
-use Rattle.py_node.specs.declared.expr.Command.{Command}
-use Rattle.py_node.specs.Tree.{Tree}
-use Rattle.seat_lock.specs.declared.history.Turn.{Turn}
-use Rattle.seat_lock.specs.declared.seat.TheConstants.{MOST_TURNS}
-use Rattle.seat_lock.specs.History.{turns_by}
-use Rattle.seat_lock.specs.Known.{TableId, Known, IsFree, IsSameSeat, fresh_seat}
-use Rattle.vm_eval.specs.Runs.{trees_in}
-use Rattle.shared_vm.specs.declared.entry.Entry.{Entry}
-use Rattle.shared_vm.specs.Work.{MayPerform, Stays, IsTurnOf, commands_in, Performed}
-use Rattle.shared_vm.specs.declared.shared_run.crew.Worker.{Worker}
-use Rattle.shared_vm.specs.SharedRun.Crew.{Each, IsReady, AllReady, Worked, Did, AllDid}
-use Rattle.shared_vm.specs.SharedRun.Mix.{session_trees}
 use Rattle.shared_vm.proofs.SharedRun.Entries.{front_nil}
 use Rattle.shared_vm.proofs.SharedRun.Mixes.{prefix_trans}
 

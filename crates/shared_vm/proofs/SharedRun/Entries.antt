@@ -1,18 +1,7 @@
 -- The entries that turns left, by their seats.
-use Rattle.std.proofs.Common.{◌≡◌, ℕ, ◌<◌, Bool, true, false, cond, eqb, List, [], ◌∷◌, ◌++◌, map, Option, Some, None, inl, inr, refl, sym, ap, ◌∙◌, arith, eq-eqb}
-use Rattle.std.specs.Prelude.{IfSome}
-use Rattle.std.specs.List.{All, cons_option}
-use Rattle.std.proofs.lemmas.Bool.{cases_lt}
-use Rattle.std.proofs.lemmas.List.{map-append}
-use Rattle.std.proofs.lemmas.List.Elements.{All-nil, All-cons, All-head, All-tail, All-same, filter_map-append}
+use Rattle.shared_vm.proofs.Below.{ℕ, Bool, true, false, cond, eqb, List, [], map, Option, Some, None, inl, inr, refl, sym, ap, ◌∙◌, arith, eq-eqb, IfSome, All, cons_option, cases_lt, map-append, All-nil, All-cons, All-head, All-tail, All-same, filter_map-append, Tree, tree_of, Turn, turns_by, Entry, PlainEntry, plain_entry, plain_journal, entries_in, entries_by}
+use Rattle.std.proofs.Common.{◌≡◌, ◌<◌, ◌∷◌, ◌++◌}
 use mathlib.Core.List.{IsPrefix}
-use Rattle.py_node.specs.Tree.{Tree, tree_of}
-use Rattle.seat_lock.specs.declared.history.Turn.{Turn}
-use Rattle.seat_lock.specs.History.{turns_by}
-use Rattle.shared_vm.specs.declared.entry.Entry.{Entry}
-use Rattle.shared_vm.specs.Journal.{PlainEntry, plain_entry, plain_journal}
-use Rattle.shared_vm.specs.Turns.{entries_in}
-use Rattle.shared_vm.specs.SharedRun.Mix.{entries_by}
 
 module _ {X : Type 0} where
   kept_tail : (Q : X → Type 0) (b : Bool) (x : X) (xs : List X) → All Q (cond b (x ∷ xs) xs) → All Q xs

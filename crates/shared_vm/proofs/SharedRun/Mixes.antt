@@ -1,20 +1,7 @@
 -- The journal of seats that did what they were to do is a mix of their sessions.
-use Rattle.std.proofs.Common.{◌≡◌, ℕ, ◌+◌, ◌<◌, List, [], ◌∷◌, ◌++◌, length, get_or, map, refl, sym, ap, ◌∙◌, subst, arith, append_assoc}
-use Rattle.std.specs.Prelude.{IfSome}
-use Rattle.std.specs.List.{All}
-use Rattle.std.proofs.lemmas.List.Elements.{All-weaker}
-use Rattle.std.proofs.lemmas.Option.{IfSome_then}
+use Rattle.shared_vm.proofs.Below.{ℕ, List, [], length, get_or, map, refl, sym, ap, ◌∙◌, subst, arith, append_assoc, IfSome, All, All-weaker, IfSome_then, Tree, Turn, turns_by, IsWhole, TableId, Known, Entry, PlainEntry, plain_journal, entries_in, IsTurnOf, commands_in, AllDid, Did, Mix}
+use Rattle.std.proofs.Common.{◌≡◌, ◌+◌, ◌<◌, ◌∷◌, ◌++◌}
 use mathlib.Core.List.{IsPrefix}
-use Rattle.py_node.specs.Tree.{Tree}
-use Rattle.seat_lock.specs.declared.history.Turn.{Turn}
-use Rattle.seat_lock.specs.History.{turns_by, IsWhole}
-use Rattle.seat_lock.specs.Known.{TableId, Known}
-use Rattle.shared_vm.specs.declared.entry.Entry.{Entry}
-use Rattle.shared_vm.specs.Journal.{PlainEntry, plain_journal}
-use Rattle.shared_vm.specs.Turns.{entries_in}
-use Rattle.shared_vm.specs.Work.{IsTurnOf, commands_in}
-use Rattle.shared_vm.specs.SharedRun.Crew.{AllDid, Did}
-use Rattle.shared_vm.specs.SharedRun.Mix.{Mix}
 use Rattle.shared_vm.proofs.SharedRun.Entries.{each_turn, each_entry, IsOwn, entries_of_turns, commands_plain, first_entries}
 
 pub prefix_trans : {A : Type 0} (xs ys zs : List A) → IsPrefix xs ys → IsPrefix ys zs → IsPrefix xs zs

@@ -1,12 +1,6 @@
 -- The classes that are written for a journal.
-use Rattle.std.proofs.Common.{◌≡◌, List, ap, ◌∙◌, subst}
-use Rattle.py_node.specs.Tree.{Text}
-use Rattle.plain_machine.specs.ClassText.{classes_text}
-use Rattle.class_world.specs.Held.{Held}
-use Rattle.class_world.specs.Reading.{Reading, Reads, plain}
-use Rattle.vm_eval.specs.State.{State}
-use Rattle.shared_vm.specs.Book.{IsReplay}
-use Rattle.shared_vm.specs.Journal.{PlainEntry, replay}
+use Rattle.shared_vm.proofs.Below.{List, ap, ◌∙◌, subst, Text, classes_text, Held, Reading, Reads, plain, State, IsReplay, PlainEntry, replay}
+use Rattle.std.proofs.Common.{◌≡◌}
 
 pub classes_of : (machine : State) (j : List PlainEntry) (w : Held) (text : Text) → IsReplay machine j → w ≡ machine.world → ((t : Reading) → Reads t w → text ≡ classes_text (plain t w)) → text ≡ classes_text (replay j)
 classes_of machine j w text is same told =

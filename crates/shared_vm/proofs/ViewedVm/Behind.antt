@@ -1,7 +1,6 @@
 -- A view is behind its machine's log.
-use Rattle.std.proofs.Common.{List, [], ◌++◌, refl, sym, ap, ◌∙◌, append_assoc}
-use Rattle.class_table.specs.ClassLog.Change.{Change}
-use Rattle.class_table.specs.ClassLog.Following.{BeginsWith, CanFollow}
+use Rattle.shared_vm.proofs.Below.{List, [], refl, sym, ap, ◌∙◌, append_assoc, Change, BeginsWith, CanFollow}
+use Rattle.std.proofs.Common.{◌++◌}
 
 -- what begins a list begins each list that this begins
 pub begins-then : {A : Type 0} (part mid whole : List A) → BeginsWith part mid → BeginsWith mid whole → BeginsWith part whole

@@ -1,19 +1,8 @@
 -- What a seat is left with that published the classes.
-use Rattle.std.proofs.Common.{◌≡◌, ℕ, false, List, [], ◌∷◌, ◌++◌, length, None, Result, Ok, Err, sym, ap, subst, ◌∙◌}
+use Rattle.shared_vm.proofs.Below.{ℕ, false, List, [], length, None, Result, Ok, Err, sym, ap, subst, ◌∙◌, Turn, turns_by, Known, IsSameSeat, with_turn, Told, Entry, ExecFault, OutOfMemory, Failed, Legal, plain_journal, Pages, IsReplay, IsTrue, entries_in, Stands, turn, newest, Viewed, log_of, Publishes, ShowsReplay, Leads, Published}
+use Rattle.std.proofs.Common.{◌≡◌, ◌∷◌, ◌++◌}
 use mathlib.Core.List.{IsPrefix}
-use Rattle.seat_lock.specs.declared.history.Turn.{Turn}
-use Rattle.seat_lock.specs.History.{turns_by}
-use Rattle.seat_lock.specs.Known.{Known, IsSameSeat, with_turn}
-use Rattle.class_view.specs.declared.writer.Told.{Told}
-use Rattle.shared_vm.specs.declared.entry.Entry.{Entry}
-use Rattle.shared_vm.specs.declared.entry.ExecFault.{ExecFault}
-use Rattle.shared_vm.specs.declared.entry.ExecFault.TheVariants.{OutOfMemory, Failed}
-use Rattle.shared_vm.specs.Journal.{Legal, plain_journal}
-use Rattle.shared_vm.specs.Book.{Pages, IsReplay, IsTrue}
-use Rattle.shared_vm.specs.Turns.{entries_in, Stands, turn, newest}
 use Rattle.shared_vm.proofs.Histories.{adds_none, makes, newest_is, numbered, stands_kept}
-use Rattle.shared_vm.specs.ViewedVm.Viewed.{Viewed, log_of, Publishes}
-use Rattle.shared_vm.specs.ViewedVm.Published.{ShowsReplay, Leads, Published}
 
 -- however it ends, the book is as it was
 pub same-book : (old new : Viewed) (r : Result (ℕ × Told) ExecFault) → Publishes old new r → new.book ≡ old.book

@@ -1,12 +1,7 @@
 -- What the seats of a run are to do, and what they have done.
-use Rattle.std.specs.Prelude.{◌≡◌, ℕ, suc, ◌<◌, false, List, [], length, vec_len, slice_index_or}
-use Rattle.std.specs.List.{All}
+use Rattle.shared_vm.specs.Below.{ℕ, suc, false, List, [], length, vec_len, slice_index_or, All, Tree, Turn, turns_by, TableId, Known, IsFree, trees_in}
+use Rattle.std.specs.Prelude.{◌≡◌, ◌<◌}
 use mathlib.Core.List.{IsPrefix}
-use Rattle.py_node.specs.Tree.{Tree}
-use Rattle.seat_lock.specs.declared.history.Turn.{Turn}
-use Rattle.seat_lock.specs.History.{turns_by}
-use Rattle.seat_lock.specs.Known.{TableId, Known, IsFree}
-use Rattle.vm_eval.specs.Runs.{trees_in}
 use Rattle.shared_vm.specs.declared.entry.Entry.{Entry}
 use Rattle.shared_vm.specs.Work.{MayPerform, Stays, IsTurnOf, commands_in, Performed}
 use Rattle.shared_vm.specs.declared.shared_run.crew.Worker.{Worker}

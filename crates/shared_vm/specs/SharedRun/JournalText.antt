@@ -1,10 +1,6 @@
 -- What is written for a journal.
-use Rattle.std.specs.Prelude.{List, ◌++◌, codes}
-use Rattle.std.specs.Fmt.{decimal}
-use Rattle.std.specs.List.{flat_map}
-use Rattle.py_node.specs.Tree.{Text}
-use Rattle.plain_machine.specs.ClassText.{classes_text}
-use Rattle.plain_machine.specs.Lines.{end_of_line, reply_lines}
+use Rattle.shared_vm.specs.Below.{List, codes, decimal, flat_map, Text, classes_text, end_of_line, reply_lines}
+use Rattle.std.specs.Prelude.{◌++◌}
 use Rattle.shared_vm.specs.Journal.{PlainEntry, replay}
 
 -- the line of the seat, and the lines of the reply

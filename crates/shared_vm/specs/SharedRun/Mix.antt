@@ -1,11 +1,7 @@
 -- Journals that are a mix of an opening and sessions.
-use Rattle.std.specs.Prelude.{◌≡◌, ◌==◌, ℕ, ◌<◌, List, [], length, map, slice_index_or, Vec}
-use Rattle.std.specs.List.{All, filter}
-use Rattle.std.specs.declared.alloc.Global.{Global}
+use Rattle.shared_vm.specs.Below.{ℕ, List, [], length, map, slice_index_or, Vec, All, filter, Global, Command, Tree, trees_in}
+use Rattle.std.specs.Prelude.{◌≡◌, ◌==◌, ◌<◌}
 use mathlib.Core.List.{IsPrefix}
-use Rattle.py_node.specs.declared.expr.Command.{Command}
-use Rattle.py_node.specs.Tree.{Tree}
-use Rattle.vm_eval.specs.Runs.{trees_in}
 use Rattle.shared_vm.specs.Journal.{PlainEntry}
 
 -- the expressions of the commands of each session

@@ -1,13 +1,6 @@
 -- What a seat is left with that published the classes.
-use Rattle.std.specs.Prelude.{◌≡◌, ℕ, true, false, List, length, None, Result, Ok, Err}
-use Rattle.seat_lock.specs.declared.history.Turn.{Turn}
-use Rattle.seat_lock.specs.History.{turns_by}
-use Rattle.seat_lock.specs.Known.{Known}
-use Rattle.class_table.specs.ClassLog.Change.{Change}
-use Rattle.class_table.specs.ClassLog.Logged.{AreSameButForNames}
-use Rattle.class_table.specs.ClassLog.Shown.{shown}
-use Rattle.class_view.specs.declared.writer.Told.{Told}
-use Rattle.vm_eval.specs.State.{State}
+use Rattle.shared_vm.specs.Below.{ℕ, true, false, List, length, None, Result, Ok, Err, Turn, turns_by, Known, Change, AreSameButForNames, shown, Told, State}
+use Rattle.std.specs.Prelude.{◌≡◌}
 use Rattle.shared_vm.specs.declared.entry.Entry.{Entry}
 use Rattle.shared_vm.specs.declared.entry.ExecFault.{ExecFault}
 use Rattle.shared_vm.specs.declared.entry.ExecFault.TheVariants.{OutOfMemory, Failed}

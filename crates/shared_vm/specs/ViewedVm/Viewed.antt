@@ -1,13 +1,6 @@
 -- A book with a view: what always holds of it, and what it comes to where its classes are published.
-use Rattle.std.specs.Prelude.{◌≡◌, ℕ, ◌+◌, true, false, List, length, Result, Ok, Err}
-use Rattle.left_right.specs.Sides.{view as known_of}
-use Rattle.seat_lock.specs.declared.history.Turn.{Turn}
-use Rattle.class_table.specs.ClassLog.Change.{Change}
-use Rattle.class_table.specs.ClassLog.Following.{BeginsWith}
-use Rattle.class_table.specs.ClassLog.Logged.{AreSameButForNames}
-use Rattle.class_table.specs.ClassLog.Shown.{shown}
-use Rattle.class_view.specs.declared.writer.Told.{Told}
-use Rattle.class_view.specs.Posted.{Posted, posted}
+use Rattle.shared_vm.specs.Below.{ℕ, true, false, List, length, Result, Ok, Err, view as known_of, Turn, Change, BeginsWith, AreSameButForNames, shown, Told, Posted, posted}
+use Rattle.std.specs.Prelude.{◌≡◌, ◌+◌}
 use Rattle.shared_vm.specs.declared.entry.Entry.{Entry}
 use Rattle.shared_vm.specs.declared.entry.ExecFault.{ExecFault}
 use Rattle.shared_vm.specs.declared.entry.ExecFault.TheVariants.{OutOfMemory, Failed}

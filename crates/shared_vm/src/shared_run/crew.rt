@@ -1,8 +1,7 @@
 //! The workers of a run: each later seat with its session, and a thread of its own.
 
-ghost use Rattle.std.specs.Prelude.{◌≡◌, ℕ, ◌<◌, length, vec_len, IfOk, suc, slice_index_or};
-ghost use Rattle.std.specs.List.{All};
-ghost use Rattle.seat_lock.specs.Known.{IsFree, fresh_seat};
+ghost use Rattle.shared_vm.specs.Below.{ℕ, length, vec_len, IfOk, suc, slice_index_or, All, IsFree, fresh_seat};
+ghost use Rattle.std.specs.Prelude.{◌≡◌, ◌<◌};
 ghost use Rattle.shared_vm.specs.Work.{MayPerform};
 ghost use Rattle.shared_vm.specs.SharedRun.Crew.{AllReady, Each, Worked};
 ghost use Rattle.shared_vm.specs.SharedRun.Mix.{session_trees};

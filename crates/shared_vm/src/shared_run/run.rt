@@ -1,9 +1,7 @@
 //! A run of sessions on a new machine.
 
-ghost use Rattle.std.specs.Prelude.{◌≡◌, ◌<◌, ◌∷◌, List, length, map, vec_len, false, IfOk, OnOk};
-ghost use Rattle.std.specs.List.{All};
-ghost use Rattle.seat_lock.specs.declared.history.Turn.{Turn};
-ghost use Rattle.seat_lock.specs.Known.{fresh_seat};
+ghost use Rattle.shared_vm.specs.Below.{List, length, map, vec_len, false, IfOk, OnOk, All, Turn, fresh_seat};
+ghost use Rattle.std.specs.Prelude.{◌≡◌, ◌<◌, ◌∷◌};
 ghost use Rattle.shared_vm.specs.declared.entry.Entry.{Entry};
 ghost use Rattle.shared_vm.specs.Book.{IsReplay};
 ghost use Rattle.shared_vm.specs.Journal.{Legal, plain_journal};

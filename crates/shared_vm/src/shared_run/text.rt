@@ -1,8 +1,7 @@
 //! The text of a journal.
 
-ghost use Rattle.std.specs.Prelude.{◌≡◌, ◌++◌, codes, IfOk, OnOk, string_bytes};
-ghost use Rattle.std.specs.Fmt.{decimal};
-ghost use Rattle.plain_machine.specs.Lines.{end_of_line};
+ghost use Rattle.shared_vm.specs.Below.{codes, IfOk, OnOk, string_bytes, decimal, end_of_line};
+ghost use Rattle.std.specs.Prelude.{◌≡◌, ◌++◌};
 ghost use Rattle.shared_vm.specs.Book.{IsReplay};
 ghost use Rattle.shared_vm.specs.Journal.{plain_journal, plain_entry};
 ghost use Rattle.shared_vm.specs.SharedRun.JournalText.{entry_lines, entries_text, journal_text};

@@ -1,10 +1,7 @@
 //! The book of a machine with a view: a book, and a writer that follows the log of its machine's classes.
 
-ghost use Rattle.std.specs.Prelude.{◌≡◌, ◌<◌, ◌+◌, ◌^◌, [], length, map, vec_len, IfOk, OnOk, true, false};
-ghost use Rattle.py_node.specs.Tree.{tree_of};
-ghost use Rattle.class_table.specs.ClassLog.Change.{change_of};
-ghost use Rattle.class_table.specs.ClassLog.Following.{BeginsWith, CanFollow};
-ghost use Rattle.class_view.specs.Posted.{posted};
+ghost use Rattle.shared_vm.specs.Below.{[], length, map, vec_len, IfOk, OnOk, true, false, tree_of, change_of, BeginsWith, CanFollow, posted};
+ghost use Rattle.std.specs.Prelude.{◌≡◌, ◌<◌, ◌+◌, ◌^◌};
 ghost use Rattle.shared_vm.specs.Book.{IsNameOf, IsTrue, Stepped};
 ghost use Rattle.shared_vm.specs.ViewedVm.Viewed.{IsTold, Publishes};
 

@@ -1,32 +1,15 @@
 -- The rows of attributes and special methods answer of their kinds.
-use Rattle.std.proofs.Common.{Bool, Err, List, None, Option, Some, false, suc, true, zero, ℕ}
-use Rattle.py_node.specs.declared.refs.PyObjectRef.{PyObjectRef}
-use Rattle.py_node.specs.declared.raised.Raised.{Raised as Fault}
-use Rattle.py_node.specs.declared.entry.SlotId.TheVariants.{Getattro, Setattro, DescrGet}
-use Rattle.py_node.specs.declared.entry.SlotEntry.{SlotEntry}
-use Rattle.py_node.specs.declared.entry.SlotEntry.TheVariants.{Native, Wrapper}
-use Rattle.py_node.specs.declared.entry.NativeEntry.TheVariants.{OfObject, OfType, OfSuper}
+use Rattle.vm_calls.proofs.Below.{Bool, Err, List, None, Option, Some, false, suc, true, zero, ℕ, PyObjectRef, Raised as Fault, Getattro, Setattro, DescrGet, SlotEntry, Native, Wrapper, OfObject, OfType, OfSuper, Found, kind_of_attribute, set_by_method, set_in_class, set_by, setter, own_taken, own_set, type_set_by, type_set_say, special_found, special_rest, special_say, bind_by, gives, is_data, of_value, find, generic_by, generic_say, maybe, value_for, generic_opt_by, generic_opt_say, of_class, type_get_by, type_get_say, get_in_class, get_by, or_get_attr, get_rest, get_attr_say, not_none, has_attr_say, as_attribute, load_found, load_fast, load_by, load, load_method_say, invoke_by, set_in_dict, generic_set_by, generic_set_say, attribute_say, Bindings, PlainWorld, AttributeJob, DoGetAttr, DoGeneric, DoGenericOpt, DoSetAttr, DoGenericSet, DoTypeGet, DoTypeSet, DoHasAttr, DoSpecial, DoBind, DoLoadMethod, DoInvoke, DoCall, ToAttribute, ToCall, Ended, is_text, datum_at, slot_at, class_object, class_number, special_at, is_fast, start, end, pass, fault, is_attribute_error, on_value, dict_of, has_place, own_value, known_text, Text, own_of, found, is_heap_at}
 use Rattle.py_node.specs.declared.entry.ObjectNative.TheVariants as object
 use Rattle.py_node.specs.declared.entry.SuperNative.TheVariants as super
 use Rattle.py_node.specs.declared.entry.TypeNative.TheVariants as type
 use Rattle.py_node.specs.declared.known.Known.TheVariants as known
-use Rattle.proto_attr.specs.declared.find.Found.{Found}
 use Rattle.proto_attr.specs.declared.find.Found.TheVariants as seen
 use Rattle.class_model.specs.Class.{class_at as class_numbered}
 use Rattle.vm_calls.specs.AnswerKinds.Kinds as kinds
-use Rattle.vm_calls.specs.AnswerKinds.Kinds.{kind_of_attribute}
 use Rattle.vm_calls.proofs.AnswerKinds.Base.{Fits, Kinded, ended, Says, ends, asks, at_once, on_way, started, forked, asking, passed, one_of, on-value}
 use Rattle.vm_calls.proofs.AnswerKinds.Said.{either}
-use Rattle.proto_attr.specs.Say.{set_by_method, set_in_class, set_by, set_attr_say, setter, own_taken, own_set, type_set_by, type_set_say, special_found, special_rest, special_say, bind_by, bind_say, gives, is_data, of_value, find, generic_by, generic_say, maybe, value_for, generic_opt_by, generic_opt_say, of_class, type_get_by, type_get_say, get_in_class, get_by, or_get_attr, get_rest, get_attr_say, not_none, has_attr_say, as_attribute, load_found, load_fast, load_by, load, load_method_say, invoke_by, invoke_say, set_in_dict, generic_set_by, generic_set_say, attribute_say}
-use Rattle.plain_machine.specs.Plain.{Bindings, PlainWorld, AttributeJob, DoGetAttr, DoGeneric, DoGenericOpt, DoSetAttr, DoGenericSet, DoTypeGet, DoTypeSet, DoHasAttr, DoSpecial, DoBind, DoLoadMethod, DoInvoke, DoCall, ToAttribute, ToCall, Ended}
-use Rattle.plain_machine.specs.World.{is_text, datum_at, slot_at}
-use Rattle.plain_machine.specs.Objects.{class_object, class_number, special_at, is_fast}
-use Rattle.plain_machine.specs.Row.{start, end, pass, fault, is_attribute_error, on_value}
-use Rattle.plain_machine.specs.Dicts.{dict_of, has_place, own_value}
-use Rattle.py_node.specs.Known.{known_text}
-use Rattle.py_node.specs.Tree.{Text}
-use Rattle.class_model.specs.Class.{own_of, found}
-use Rattle.class_model.specs.Slot.{is_heap_at}
+use Rattle.proto_attr.specs.Say.{set_attr_say, bind_say, invoke_say}
 
 -- setting
 

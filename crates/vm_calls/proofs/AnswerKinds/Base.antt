@@ -1,21 +1,13 @@
 -- Rows whose answers are of a kind.
-use Rattle.std.proofs.Common.{◌≡◌, ℕ, zero, suc, ℤ, Bool, true, false, cond, List, [], ◌∷◌, ◌++◌, Option, Some, Ok, Err, refl, sym, subst}
-use Rattle.py_node.specs.declared.refs.PyObjectRef.{PyObjectRef}
-use Rattle.py_node.specs.declared.entry.NativeEntry.{NativeEntry}
+use Rattle.vm_calls.proofs.Below.{ℕ, zero, suc, ℤ, Bool, true, false, cond, List, [], Option, Some, Ok, Err, refl, sym, subst, PyObjectRef, NativeEntry, OfObject, OfType, OfInt, OfNumber, OfStr, OfTuple, OfList, OfDict, SlotEntry, ANumber, PlainWorld, PlainTask, PlainAnswer, AsValue, AsDone, AsNumber, AsTruth, AsMaybe, Ended, Bindings, Answered, Read, ReadObjects, ReadNames, Chose, Fact, Told, Said, Asks, Ends, the_int, native_task, Row, start, fork, ask, end, make, value, on_value, on_truth, on_number, on_maybe, on_done, or_else, is_not_implemented, noting, once, once_told, choose, read_once, read_objects, read_names, entries_in, objects_in, names_in, way_in, named_end, Kind, Value, TruthValue, DoneOrValue, Number, NumberOrNone, Truth, Maybe, TruthOrNone, Objects, Item, Method, Start, is_of, kind_of_native, kind_of}
+use Rattle.std.proofs.Common.{◌≡◌, ◌∷◌, ◌++◌}
 use Rattle.py_node.specs.declared.entry.DictNative.TheVariants as dict
 use Rattle.py_node.specs.declared.entry.ListNative.TheVariants as list
 use Rattle.py_node.specs.declared.entry.NumberNative.TheVariants as number
 use Rattle.py_node.specs.declared.entry.ObjectNative.TheVariants as object
 use Rattle.py_node.specs.declared.entry.StrNative.TheVariants as str
 use Rattle.py_node.specs.declared.entry.TupleNative.TheVariants as tuple
-use Rattle.py_node.specs.declared.entry.NativeEntry.TheVariants.{OfObject, OfType, OfInt, OfNumber, OfStr, OfTuple, OfList, OfDict}
-use Rattle.py_node.specs.declared.entry.SlotEntry.{SlotEntry}
-use Rattle.plain_machine.specs.Plain.{ANumber, PlainWorld, PlainTask, PlainAnswer, AsValue, AsDone, AsNumber, AsTruth, AsMaybe, Ended, Bindings, Answered, Read, ReadObjects, ReadNames, Chose, Fact, Told, Said, Asks, Ends}
-use Rattle.plain_machine.specs.Known.{the_int}
-use Rattle.plain_machine.specs.Native.{native_task}
-use Rattle.plain_machine.specs.Row.{Row, start, fork, ask, end, make, value, on_value, on_truth, on_number, on_maybe, on_done, or_else, is_not_implemented, noting, once, once_told, choose, read_once, read_objects, read_names, entries_in, objects_in, names_in, way_in}
-use Rattle.plain_machine.specs.Takes.{named_end}
-use Rattle.vm_calls.specs.AnswerKinds.Kinds.{Kind, Value, TruthValue, Done, DoneOrValue, Number, NumberOrNone, Truth, Maybe, TruthOrNone, Objects, Item, Method, Start, is_of, kind_of_native, kind_of}
+use Rattle.vm_calls.specs.AnswerKinds.Kinds.{Done}
 
 -- a test that holds
 abbrev pub So : Bool → Type 0

@@ -1,37 +1,21 @@
 -- The natives that call an object, bind it, set in it or make one answer of their kinds.
-use Rattle.std.proofs.Common.{Bool, Err, List, None, Ok, Option, Some, cond, false, true, ℕ, ◌∷◌, []}
-use Rattle.py_node.specs.declared.refs.PyObjectRef.{PyObjectRef}
-use Rattle.py_node.specs.declared.built_in.BuiltIn.{BuiltIn}
-use Rattle.py_node.specs.declared.entry.Detail.{Detail}
+use Rattle.vm_calls.proofs.Below.{Bool, Err, List, None, Ok, Option, Some, cond, false, true, ℕ, [], PyObjectRef, BuiltIn, Detail, NativeEntry, Setting, Way, with_kind as of_kind, wrapped_in as wrapped_callable, call_native, class_of_option, class_for, class_method_get, class_method_by, start_with, super_bound, super_get, Kind, kind_of_native, kind_of, is_function, is_method_descriptor, called_task, asked_of_kind, call_by_name, get_by_name, is_getset, is_member, is_property, is_super, is_class_method, is_static_method, is_of_kind, function_get_by_name, native_get_by_name, getset_get_by_name, member_get_by_name, property_get_by_name, super_get_by_name, class_method_by_name, static_method_by_name, set_as, set_so, delete_so, none_said, set_by_name, delete_by_name, super_attribute_by_name, super_init_by_name, made_by, new_by_name, class_of_wrapper, wrapper_new, wrapper_rest, none_end, way_rest, part_of_wrapped, with_get, marked_in, mark_with, mark_by_name, Datum, AClassMethod, ASuper, Bindings, PlainWorld, PlainTask, AsValue, AsDone, Ended, ReadObjects, Told, Said, Asks, Ends, datum_at, next_node, class_number, Row, end, value, none, truth, named_end, is_sub}
+use Rattle.std.proofs.Common.{◌∷◌}
 use Rattle.py_node.specs.declared.entry.Detail.TheVariants as detail
-use Rattle.py_node.specs.declared.entry.NativeEntry.{NativeEntry}
 use Rattle.proto_attr.specs.declared.native_calls.way.Kind.{Kind as Bound}
 use Rattle.proto_attr.specs.declared.native_calls.way.Kind.TheVariants as kind
-use Rattle.proto_attr.specs.declared.native_calls.way.Setting.{Setting}
 use Rattle.proto_attr.specs.declared.native_calls.way.Setting.TheVariants as setting
 use Rattle.proto_attr.specs.declared.native_calls.way.Wrapper.{Wrapper}
-use Rattle.proto_attr.specs.declared.native_calls.way.Way.{Way}
 use Rattle.proto_attr.specs.declared.native_calls.way.Way.TheVariants as way
-use Rattle.proto_attr.specs.NativeCalls.Say.{with_kind as of_kind, kind_of as setting_kind}
-use Rattle.proto_attr.specs.NativeCalls.Parts.{wrapped_in as wrapped_callable}
-use Rattle.row_kit.specs.Called.{call_native}
-use Rattle.proto_attr.specs.ProtoDescr.Say.{class_of_option, class_for, class_method_get, class_method_by, start_with}
-use Rattle.proto_attr.specs.ProtoDescr.Supers.{super_bound, super_get}
+use Rattle.proto_attr.specs.NativeCalls.Say.{kind_of as setting_kind}
 use Rattle.vm_calls.specs.AnswerKinds.Kinds as kinds
-use Rattle.vm_calls.specs.AnswerKinds.Kinds.{Kind, kind_of_native, kind_of}
 use Rattle.vm_calls.proofs.AnswerKinds.Base.{Fits, within, wider, Family, GoesOn, Kinded, ended, Says, ends, asks, at_once, stepped, on-done, whatever, IsGiven, given, for_given, named-row, named-end}
 use Rattle.vm_calls.proofs.AnswerKinds.Said.{either, no-keywords, takes-one, takes-two, takes-text}
 use Rattle.vm_calls.proofs.AnswerKinds.Own.{takes-own, takes-heir}
 use Rattle.vm_calls.proofs.AnswerKinds.Descriptors.{function-said, native-said, Takes, getset-said, member-said, property-said, static-method-said, class-method-by, super-bound, getset-set, member-set, property-set}
 use Rattle.vm_calls.proofs.AnswerKinds.Calls.{Gives, call-gives}
-use Rattle.proto_attr.specs.NativeCalls.Say.{is_function, is_method_descriptor, called_task, asked_of_kind, call_by_name, get_by_name, is_getset, is_member, is_property, is_super, is_class_method, is_static_method, is_of_kind, function_get_by_name, native_get_by_name, getset_get_by_name, member_get_by_name, property_get_by_name, super_get_by_name, class_method_by_name, static_method_by_name, set_as, set_so, delete_so, none_said, set_by_name, delete_by_name, super_attribute_by_name, super_init_by_name, made_by, new_by_name, class_of_wrapper, wrapper_new, wrapper_rest, by_way, none_end, way_rest}
-use Rattle.proto_attr.specs.NativeCalls.Parts.{part_of_wrapped, or_not_abstract, with_get, marked_in, mark_with, mark_by_name}
-use Rattle.plain_machine.specs.Plain.{Datum, AClassMethod, ASuper, Bindings, PlainWorld, PlainTask, AsValue, AsDone, Ended, ReadObjects, Told, Said, Asks, Ends}
-use Rattle.plain_machine.specs.World.{datum_at, next_node}
-use Rattle.plain_machine.specs.Objects.{class_number}
-use Rattle.plain_machine.specs.Row.{Row, end, value, none, truth}
-use Rattle.plain_machine.specs.Takes.{named_end}
-use Rattle.class_model.specs.Class.{is_sub}
+use Rattle.proto_attr.specs.NativeCalls.Say.{by_way}
+use Rattle.proto_attr.specs.NativeCalls.Parts.{or_not_abstract}
 
 -- what they take
 

@@ -1,40 +1,18 @@
 -- The rows of calls answer of their kinds.
-use Rattle.std.proofs.Common.{Bool, Err, List, None, Ok, Option, Some, cond, eqb, false, not, subst, suc, sym, true, zero, ℕ, ◌∷◌, []}
-use Rattle.py_node.specs.declared.refs.PyObjectRef.{PyObjectRef}
-use Rattle.py_node.specs.declared.raised.Cause.TheVariants.{InitNotNone}
-use Rattle.py_node.specs.declared.entry.SlotId.TheVariants.{Call, Init, New}
-use Rattle.py_node.specs.declared.entry.SlotEntry.{SlotEntry}
-use Rattle.py_node.specs.declared.entry.SlotEntry.TheVariants.{Native, Wrapper}
-use Rattle.py_node.specs.declared.entry.ObjectNative.{ObjectNative}
+use Rattle.vm_calls.proofs.Below.{Bool, Err, List, None, Ok, Option, Some, cond, eqb, false, not, subst, suc, sym, true, zero, ℕ, [], PyObjectRef, InitNotNone, Call, Init, New, SlotEntry, Native, Wrapper, ObjectNative, NativeEntry, OfObject, OfCallable, OfType, OfWrapper, Tree, Kind, kind_of_native, kind_of_call, kind_of, is_empty, asked_of_native, call_by, call_say, single, left_over, all_filled, when_filled, rest_fits, by_place, body_by, body_say, initialised, type_call_say, new_found, new_by, new_say, init_by, init_rest, init_say, is_abstract, unless_abstract, created, new_of_class, object_new, object_init, unspecified, object_by, object_say, call_job_say, with_self, call_native, Datum, AClass, AFunction, AMethod, ANativeFunction, ABuiltinMethod, AMethodDescriptor, AStaticMethod, Bindings, PlainWorld, CallJob, DoCall, DoBody, DoTypeCall, DoNew, DoInit, DoObject, DoIsTrue, PlainTask, ToCall, ToProtocol, AsValue, AsDone, Ended, Chose, Told, is_text, text_keys, datum_at, slot_at, without_scope, class_object, class_number, nearest_built_in, the_object, start, ask, end, value, none, fault, on_value, on_truth, on_done, truth, is_not_implemented, native_task, native_end, known_text, Text, found, slot, natives_of}
+use Rattle.std.proofs.Common.{◌∷◌}
 use Rattle.py_node.specs.declared.entry.ObjectNative.TheVariants as object
 use Rattle.py_node.specs.declared.entry.CallableNative.TheVariants as callable
 use Rattle.py_node.specs.declared.entry.TypeNative.TheVariants as type
 use Rattle.py_node.specs.declared.entry.WrapperNative.TheVariants as wrapper
-use Rattle.py_node.specs.declared.entry.NativeEntry.{NativeEntry}
-use Rattle.py_node.specs.declared.entry.NativeEntry.TheVariants.{OfObject, OfCallable, OfType, OfWrapper}
 use Rattle.py_node.specs.declared.known.Known.TheVariants as known
-use Rattle.py_node.specs.Tree.{Tree}
 use Rattle.vm_calls.specs.AnswerKinds.Kinds as kinds
-use Rattle.vm_calls.specs.AnswerKinds.Kinds.{Kind, kind_of_native, kind_of_call, kind_of}
 use Rattle.vm_calls.proofs.AnswerKinds.Base.{So, Fits, wider, Kinded, ended, Says, ends, asks, at_once, on_way, started, forked, asking, finished, passed, one_of, on-value, on-truth, on-done, started_so, native-kind, native-asked, native-given, is_given, for_given, named-row}
 use Rattle.vm_calls.proofs.AnswerKinds.Said.{either, takes-one, takes-two, takes-three, takes-text}
 use Rattle.vm_calls.proofs.AnswerKinds.Columns.{gives_in, slot-gives, slot-at-gives}
 use Rattle.vm_calls.proofs.AnswerKinds.Tables.{new-column, init-column}
 use Rattle.vm_calls.proofs.AnswerKinds.Objects.{object-native}
-use Rattle.proto_call.specs.Say.{is_empty, asked_of_native, call_by, call_say, single, left_over, all_filled, when_filled, rest_fits, by_place, body_by, body_say, initialised, type_call_say, new_found, new_by, new_say, init_by, init_rest, init_say, is_abstract, unless_abstract, created, new_of_class, object_new, object_init, unspecified, turned, object_by, object_say, call_job_say}
-use Rattle.row_kit.specs.Called.{with_self, call_native}
-use Rattle.plain_machine.specs.Plain.{Datum, AClass, AFunction, AMethod, ANativeFunction, ABuiltinMethod, AMethodDescriptor, AStaticMethod, Bindings, PlainWorld, CallJob, DoCall, DoBody, DoTypeCall, DoNew, DoInit, DoObject, DoIsTrue, PlainTask, ToCall, ToProtocol, AsValue, AsDone, Ended, Chose, Told}
-use Rattle.plain_machine.specs.World.{is_text, text_keys, datum_at, slot_at, without_scope}
-use Rattle.plain_machine.specs.Objects.{class_object, class_number, nearest_built_in}
-use Rattle.plain_machine.specs.Known.{the_object}
-use Rattle.plain_machine.specs.Row.{start, ask, end, value, none, fault, on_value, on_truth, on_done, truth, is_not_implemented}
-use Rattle.plain_machine.specs.Native.{native_task}
-use Rattle.plain_machine.specs.Takes.{native_end}
-use Rattle.py_node.specs.Known.{known_text}
-use Rattle.py_node.specs.Tree.{Text}
-use Rattle.class_model.specs.Class.{found}
-use Rattle.class_model.specs.Slot.{slot}
-use Rattle.class_model.specs.BuiltIn.{natives_of}
+use Rattle.proto_call.specs.Say.{turned}
 
 -- what is asked, if anything, gives an object or a number
 abbrev pub Gives : Option PlainTask → Type 0

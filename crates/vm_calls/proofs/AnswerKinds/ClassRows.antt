@@ -1,32 +1,14 @@
 -- The rows of the creation of classes answer with objects.
-use Rattle.std.proofs.Common.{Bool, Err, List, None, Ok, Option, Result, Some, cond, eqb, false, is_some, length, true, ℕ, ◌∷◌, [], ◌&&◌, not}
-use Rattle.py_node.specs.declared.refs.PyObjectRef.{PyObjectRef}
-use Rattle.py_node.specs.declared.raised.Cause.{Cause}
-use Rattle.py_node.specs.declared.raised.Cause.TheVariants.{SetNameCalled, MroEntries, BasesNotTypes, NullInName, TypeArgs}
-use Rattle.py_node.specs.declared.entry.SlotId.TheVariants.{New}
-use Rattle.py_node.specs.declared.entry.TypeNative.{TypeNative}
+use Rattle.vm_calls.proofs.Below.{Bool, Err, List, None, Ok, Option, Result, Some, cond, eqb, false, is_some, length, true, ℕ, [], not, PyObjectRef, Cause, SetNameCalled, MroEntries, BasesNotTypes, NullInName, TypeArgs, New, TypeNative, refused_layout, hook as class_hook, namespace, Space, completed, dicted, name_hook, bind_hook, bind_hooks, call_hook, unless_raised, call_hooks, without_metaclass, init_subclass, own_values, tell, whole_class, refusal, made_unless, with_slots, with_names, by_slots, with_namespace, on_layout, winner, by_winner, classes_of, by_classes, by_bases, tuple_of, by_parts, from_three, three_of, by_one, no_class, make_class_say, type_new_of, type_new, class_in, called_with, type_call, type_by, class_job_say, value_of, has_null, Bindings, PlainWorld, DoBind, DoCall, DoNew, ClassJob, DoMakeClass, DoType, ToAttribute, ToCall, Ended, Made, Said, Asks, Ends, is_text, text_keys, ref, datum_at, type_object, class_number, nearest_built_in, the_object, the_type, Row, start, end, value, pass, fault, is_attribute_error, on_value, on_done, noting, native_end, known_text, Text, natives_of, found_past, entry}
+use Rattle.std.proofs.Common.{◌∷◌, ◌&&◌}
 use Rattle.py_node.specs.declared.entry.TypeNative.TheVariants as type
 use Rattle.py_node.specs.declared.known.Known.TheVariants as known
-use Rattle.class_table.specs.Refused.{refused_layout}
-use Rattle.proto_call.specs.ClassMake.Say.{one_of as one_argument, dict_of as dict_in, is_class as is_of_class, hook as class_hook, with_self as with_type, Entries, text_of, namespace, Space, completed, dicted, name_hook, bind_hook, bind_hooks, call_hook, unless_raised, call_hooks, without_metaclass, init_subclass, own_values, tell, whole_class, refusal, made_unless, with_slots, with_names, by_slots, made, with_namespace, on_layout, on_bases, winner, by_winner, classes_of, by_classes, by_bases, tuple_of, by_parts, from_three, three_of, by_one, no_class, make_class_say, type_new_of, type_new, class_in, called_with, type_call, type_by, class_job_say}
-use Rattle.py_node.specs.Attributes.{value_of}
+use Rattle.proto_call.specs.ClassMake.Say.{one_of as one_argument, dict_of as dict_in, is_class as is_of_class, with_self as with_type, Entries, text_of, made, on_bases}
 use Rattle.vm_calls.specs.AnswerKinds.Kinds as kinds
 use Rattle.vm_calls.proofs.AnswerKinds.Base.{Family, GoesOn, Kinded, ended, Says, ends, asks, at_once, stepped, goes-on, started, read_objects_once, read_names_once, on-value, on-done, started_so, either-fits}
 use Rattle.vm_calls.proofs.AnswerKinds.Said.{either, takes-two, takes-three, takes-text}
 use Rattle.vm_calls.proofs.AnswerKinds.Objects.{type-native}
 use Rattle.vm_calls.proofs.AnswerKinds.Calls.{native-end}
-use Rattle.row_kit.specs.Questions.{has_null}
-use Rattle.plain_machine.specs.Plain.{Bindings, PlainWorld, DoBind, DoCall, DoNew, ClassJob, DoMakeClass, DoType, ToAttribute, ToCall, Ended, Made, Said, Asks, Ends}
-use Rattle.plain_machine.specs.World.{is_text, text_keys, ref, datum_at}
-use Rattle.plain_machine.specs.Objects.{type_object, class_number, nearest_built_in}
-use Rattle.plain_machine.specs.Known.{the_object, the_type}
-use Rattle.plain_machine.specs.Row.{Row, start, end, value, pass, fault, is_attribute_error, on_value, on_done, noting}
-use Rattle.plain_machine.specs.Takes.{native_end}
-use Rattle.py_node.specs.Known.{known_text}
-use Rattle.py_node.specs.Tree.{Text}
-use Rattle.class_model.specs.BuiltIn.{natives_of}
-use Rattle.class_model.specs.Class.{found_past}
-use Rattle.class_model.specs.Slot.{entry}
 
 -- a class that was made is told of
 

@@ -1,22 +1,7 @@
 -- What stands in a slot of a class is a native of a built-in class, or no native.
-use Rattle.std.proofs.Common.{ℕ, Bool, true, false, cond, List, [], ◌∷◌, Option, Some, None, option_and_then, slice_get, not, ◌&&◌}
-use Rattle.py_node.specs.declared.refs.PyObjectRef.{PyObjectRef}
-use Rattle.py_node.specs.declared.built_in.BuiltIn.{BuiltIn}
-use Rattle.py_node.specs.declared.entry.SlotId.{SlotId}
-use Rattle.py_node.specs.declared.entry.SlotEntry.{SlotEntry}
-use Rattle.py_node.specs.declared.entry.SlotEntry.TheVariants.{Native, Wrapper, Unhashable}
-use Rattle.py_node.specs.declared.slots.Sort.{Sort}
-use Rattle.py_node.specs.declared.slots.Sort.TheVariants.{ByItself, BySequence, ByMapping, Nearest}
-use Rattle.py_node.specs.BuiltIns.{all_built_ins}
-use Rattle.py_node.specs.OwnAttrs.{own_attrs}
-use Rattle.py_node.specs.Slots.{sort_of}
-use Rattle.py_node.specs.Tree.{Text}
-use Rattle.class_model.specs.Class.{Classes, class_at, first_along, or_else, lin}
-use Rattle.class_model.specs.Slot.{wrapped, heap_entry, is_heap_at, given_entry, is_by_itself, entry, read_along, slot}
-use Rattle.class_model.specs.BuiltIn.{entry_among, natives_of}
-use Rattle.plain_machine.specs.Plain.{PlainWorld}
-use Rattle.plain_machine.specs.World.{text_keys, class_at as class_of, slot_at}
-use Rattle.vm_calls.specs.AnswerKinds.Kinds.{Kind, kind_of_native}
+use Rattle.vm_calls.proofs.Below.{ℕ, Bool, true, false, cond, List, [], Option, Some, None, not, PyObjectRef, BuiltIn, SlotId, SlotEntry, Native, Wrapper, Unhashable, Sort, ByItself, BySequence, ByMapping, Nearest, all_built_ins, own_attrs, sort_of, Text, Classes, first_along, lin, wrapped, heap_entry, is_heap_at, given_entry, is_by_itself, entry, read_along, slot, entry_among, natives_of, PlainWorld, text_keys, class_at as class_of, slot_at, Kind, kind_of_native}
+use Rattle.std.proofs.Common.{◌∷◌, option_and_then, slice_get, ◌&&◌}
+use Rattle.class_model.specs.Class.{class_at, or_else}
 use Rattle.vm_calls.proofs.AnswerKinds.Base.{So, within}
 
 -- a native, if there is one, answers of one of these kinds

@@ -1,25 +1,11 @@
 -- The rows of comparisons answer of their kinds.
-use Rattle.std.proofs.Common.{Bool, None, Ok, Option, Some, cond, eqb, false, not, suc, true, zero, ℕ, ◌∷◌, []}
-use Rattle.py_node.specs.declared.refs.PyObjectRef.{PyObjectRef}
-use Rattle.py_node.specs.declared.raised.Cause.TheVariants.{UnsupportedOperand}
-use Rattle.py_node.specs.declared.entry.NativeEntry.{NativeEntry}
-use Rattle.py_node.specs.declared.entry.NativeEntry.TheVariants.{OfObject, Compare}
-use Rattle.py_node.specs.declared.entry.SlotId.TheVariants.{Richcompare}
-use Rattle.py_node.specs.declared.entry.SlotEntry.{SlotEntry}
-use Rattle.py_node.specs.declared.entry.SlotEntry.TheVariants.{Native}
-use Rattle.py_node.specs.declared.task.PyComparisonOp.{PyComparisonOp}
-use Rattle.py_node.specs.declared.task.PyComparisonOp.TheVariants.{Lt, Gt, Ne, Eq, Le, Ge}
-use Rattle.plain_machine.specs.World.{class_at as class_of}
+use Rattle.vm_calls.proofs.Below.{Bool, None, Ok, Option, Some, cond, eqb, false, not, suc, true, zero, ℕ, [], PyObjectRef, UnsupportedOperand, NativeEntry, OfObject, Compare, Richcompare, SlotEntry, Native, PyComparisonOp, Lt, Gt, Ne, Eq, Le, Ge, class_at as class_of, kind_of_native, kind_of_compare, kind_of, is_heir, by_identity, compared, compare_say, native_for, cmp_by, cmp_say, counts, rich_bool_say, bool_eq_say, id_eq_say, decided, undecided, seq_say, compare_job_say, swapped, PlainWorld, CompareJob, DoCompare, DoCmp, DoRichBool, DoBoolEq, DoIdEq, DoSeqLt, DoSeqGt, DoIsTrue, PlainTask, ToCompare, ToProtocol, AsTruth, AsMaybe, slot_at, ask, end, value, fault, on_value, on_truth, truth, or_else}
+use Rattle.std.proofs.Common.{◌∷◌}
 use Rattle.vm_calls.specs.AnswerKinds.Kinds as kinds
-use Rattle.vm_calls.specs.AnswerKinds.Kinds.{kind_of_native, kind_of_compare, kind_of}
 use Rattle.vm_calls.proofs.AnswerKinds.Base.{So, within, Family, Kinded, ended, Says, asks, at_once, asking, passed, one_of, chosen, on-value, on-truth, or-else, native-asked}
 use Rattle.vm_calls.proofs.AnswerKinds.Columns.{gives_in, slot-at-gives}
 use Rattle.vm_calls.proofs.AnswerKinds.Tables.{compare-column}
-use Rattle.proto_ops.specs.ProtoCompare.Say.{is_heir, by_identity, compared, compare_say, native_for, cmp_by, cmp_say, truth_of, counts, rich_bool_say, bool_eq_say, id_eq_say, decided, undecided, seq_say, compare_job_say}
-use Rattle.proto_ops.specs.ProtoCompare.Comparisons.{swapped}
-use Rattle.plain_machine.specs.Plain.{PlainWorld, CompareJob, DoCompare, DoCmp, DoRichBool, DoBoolEq, DoIdEq, DoSeqLt, DoSeqGt, DoIsTrue, PlainTask, ToCompare, ToProtocol, AsTruth, AsMaybe}
-use Rattle.plain_machine.specs.World.{slot_at}
-use Rattle.plain_machine.specs.Row.{ask, end, value, fault, on_value, on_truth, truth, or_else}
+use Rattle.proto_ops.specs.ProtoCompare.Say.{truth_of}
 
 identity-row : (a b : PyObjectRef) (o : PyComparisonOp) → Kinded kinds.Value (λ w. by_identity w a b o)
 identity-row a b Eq = ended kinds.Value (value (truth (eqb a.0 b.0))) tt

@@ -1,34 +1,19 @@
 -- The natives of containers that end at once answer of their kinds.
-use Rattle.std.proofs.Common.{◌++◌, ◌==◌, Bool, List, None, Option, Some, false, fold, is_some, length, nat_le, true, ◌∷◌, []}
-use Rattle.py_node.specs.declared.refs.PyObjectRef.{PyObjectRef}
-use Rattle.py_node.specs.declared.raised.Cause.TheVariants.{MissingKey}
-use Rattle.py_node.specs.declared.entry.TupleNative.{TupleNative}
+use Rattle.vm_calls.proofs.Below.{Bool, List, None, Option, Some, false, fold, is_some, length, nat_le, true, [], PyObjectRef, MissingKey, TupleNative, ListNative, DictNative, IteratorNative, OfTuple, OfList, OfDict, unless_long, with_like, with_joined, tuple_say, list_changed, list_say, value_under, dict_changed, ends_none, key_taken, dict_updated, names_set, dict_filled, iterator_say, with_lone, with_own_and, with_own_and_two, with_key, with_dict_and_key, with_default, items_at, entries_at, Kind, kind_of_native, keys_of, values_of, pairs_made, ATuple, AList, Bindings, PlainWorld, Ended, Told, Said, datum_at, with_node, next_node, the_tuple, the_list, value, none, fault, most_items, truth, Entries, has_place, with_entries, with_value_in, with_entry, with_one, with_two, with_three, key_at}
+use Rattle.std.proofs.Common.{◌++◌, ◌==◌, ◌∷◌}
 use Rattle.py_node.specs.declared.entry.TupleNative.TheVariants as tuple
-use Rattle.py_node.specs.declared.entry.ListNative.{ListNative}
 use Rattle.py_node.specs.declared.entry.ListNative.TheVariants as list
-use Rattle.py_node.specs.declared.entry.DictNative.{DictNative}
 use Rattle.py_node.specs.declared.entry.DictNative.TheVariants as dict
-use Rattle.py_node.specs.declared.entry.IteratorNative.{IteratorNative}
 use Rattle.py_node.specs.declared.entry.IteratorNative.TheVariants as iterator
-use Rattle.py_node.specs.declared.entry.NativeEntry.TheVariants.{OfTuple, OfList, OfDict}
 use Rattle.row_kit.specs.declared.take_containers.Kind.{Kind as Container}
 use Rattle.row_kit.specs.declared.take_containers.Kind.TheVariants as kind
-use Rattle.native_containers.specs.Say.{given_or as value_or, unless_long, with_like, with_joined, tuple_say, list_changed, list_say, value_under, dict_changed, ends_none, key_taken, dict_updated, names_set, dict_filled, dict_say, iterator_say}
-use Rattle.native_containers.specs.Take.{with_own as with_container, with_kind, with_lone, with_own_and, with_own_and_two, with_key, with_dict_and_key, with_default}
-use Rattle.row_kit.specs.TakeContainers.{is_of as is_container, items_at, entries_at}
+use Rattle.native_containers.specs.Say.{given_or as value_or, dict_say}
+use Rattle.native_containers.specs.Take.{with_own as with_container, with_kind}
+use Rattle.row_kit.specs.TakeContainers.{is_of as is_container}
 use Rattle.vm_calls.specs.AnswerKinds.Kinds as kinds
-use Rattle.vm_calls.specs.AnswerKinds.Kinds.{Kind, kind_of_native}
 use Rattle.vm_calls.proofs.AnswerKinds.Base.{Fits, Says, ends}
 use Rattle.vm_calls.proofs.AnswerKinds.Said.{either, takes-one, takes-two, takes-three}
 use Rattle.vm_calls.proofs.AnswerKinds.Gives.{object-given, iterator-given}
-use Rattle.row_kit.specs.GiveContainers.{keys_of, values_of, pairs_made}
-use Rattle.plain_machine.specs.Plain.{ATuple, AList, Bindings, PlainWorld, Ended, Told, Said}
-use Rattle.plain_machine.specs.World.{datum_at, with_node, next_node}
-use Rattle.plain_machine.specs.Known.{the_tuple, the_list}
-use Rattle.plain_machine.specs.Row.{value, none, fault, most_items, truth}
-use Rattle.plain_machine.specs.Dicts.{Entries, has_place, with_entries, with_value_in, with_entry}
-use Rattle.plain_machine.specs.Takes.{with_one, with_two, with_three}
-use Rattle.plain_machine.specs.Sound.{key_at}
 
 kind-taken : {q : Told → Kind → Bool} {k : Kind} (c : Container) (w : PlainWorld) (o : PyObjectRef) (go : Said) → Says q k go → Says q k (with_kind c w o go)
 kind-taken c w o go p = either (is_container c (datum_at w o)) p (ends tt)

@@ -1,43 +1,20 @@
 -- The rows of descriptors answer of their kinds.
-use Rattle.std.proofs.Common.{◌&&◌, Bool, Err, List, None, Ok, Option, Some, cond, eqb, is_some, not, set, ℕ, ◌∷◌, []}
-use Rattle.py_node.specs.declared.refs.PyObjectRef.{PyObjectRef}
-use Rattle.py_node.specs.declared.raised.Cause.{Cause}
-use Rattle.py_node.specs.declared.entry.SlotId.TheVariants.{DescrGet, DescrSet}
-use Rattle.py_node.specs.declared.entry.SlotEntry.{SlotEntry}
-use Rattle.py_node.specs.declared.entry.SlotEntry.TheVariants.{Native, Wrapper}
-use Rattle.py_node.specs.declared.entry.NativeEntry.{NativeEntry}
-use Rattle.py_node.specs.declared.entry.NativeEntry.TheVariants.{OfCallable, OfDescriptor, OfProperty, OfWrapper, OfSuper}
+use Rattle.vm_calls.proofs.Below.{Bool, Err, List, None, Ok, Option, Some, cond, eqb, is_some, not, set, ℕ, [], PyObjectRef, Cause, DescrGet, DescrSet, SlotEntry, Native, Wrapper, NativeEntry, OfCallable, OfDescriptor, OfProperty, OfWrapper, OfSuper, PyProperty, MemberKind, MemberGetter, MemberSetter, NoDeleter, NoGetter, NoSetter, SuperCheckFailed, Kind, kind_of_native, kind_of_descriptor, kind_of, is_object_none, class_of_option, function_get, bound_native, object_get, class_get, static_get, native_get, getset_get, class_for, class_method_get, class_method_by, static_method_get, descr_get_by, start_with, descr_get_rest, descr_get_say, getset_set, descr_set_by, descr_set_say, super_get_say, super_init_rest, super_init_say, super_check_say, descriptor_say, or_empty, read_member, member_get, takes, set_member, member_set, call_part, property_get, set_part, property_set, told_start, starting, check_class, super_check, super_get, super_bound, found_after, looked_up, super_attribute, set_super, super_started, Parts, super_parts, super_init, Datum, AMethodDescriptor, AGetSet, AClassMethod, AStaticMethod, AMember, AProperty, ASuper, PlainWorld, DescriptorJob, DoDescrGet, DoDescrSet, DoSuperGet, DoSuperInit, DoSuperCheck, AsValue, AsStart, Ended, ReadObjects, Told, Said, Asks, Ends, is_text, datum_at, class_at, slot_at, bound, type_object, class_number, derives, is_instance, for_objects, for_classes, Row, start, end, done, none, pass, fault, on_value, on_done, native_task, value_at_place, known_text, Text, is_sub}
+use Rattle.std.proofs.Common.{◌&&◌, ◌∷◌}
 use Rattle.py_node.specs.declared.entry.CallableNative.TheVariants as callable
 use Rattle.py_node.specs.declared.entry.DescriptorNative.TheVariants as descriptor
 use Rattle.py_node.specs.declared.entry.PropertyNative.TheVariants as property
 use Rattle.py_node.specs.declared.entry.SuperNative.TheVariants as super
 use Rattle.py_node.specs.declared.entry.WrapperNative.TheVariants as wrapper
-use Rattle.py_node.specs.declared.payload.PyProperty.{PyProperty}
-use Rattle.py_node.specs.declared.payload.MemberKind.{MemberKind}
 use Rattle.py_node.specs.declared.payload.MemberKind.TheVariants as member
-use Rattle.py_node.specs.declared.payload.MemberGetter.{MemberGetter}
 use Rattle.py_node.specs.declared.payload.MemberGetter.TheVariants as getter
-use Rattle.py_node.specs.declared.payload.MemberSetter.{MemberSetter}
 use Rattle.py_node.specs.declared.payload.MemberSetter.TheVariants as setter
 use Rattle.py_node.specs.declared.known.Known.TheVariants as known
-use Rattle.py_node.specs.declared.raised.Cause.TheVariants.{NoDeleter, NoGetter, NoSetter, SuperCheckFailed}
 use Rattle.vm_calls.specs.AnswerKinds.Kinds as kinds
-use Rattle.vm_calls.specs.AnswerKinds.Kinds.{Kind, kind_of_native, kind_of_descriptor, kind_of}
 use Rattle.vm_calls.proofs.AnswerKinds.Base.{So, Fits, within, wider, GoesOn, Kinded, ended, Says, ends, asks, at_once, having_read, stepped, started, passed, on-value, on-done, ended-by, whatever, started_so, either-fits, native-asked, native-given, is_given, IsGiven, given, for_given, named-row, named-end}
 use Rattle.vm_calls.proofs.AnswerKinds.Said.{either}
-use Rattle.proto_attr.specs.ProtoDescr.Say.{is_object_none, class_of_option, function_get, bound_native, object_get, class_get, static_get, native_get, getset_get, class_for, class_method_get, class_method_by, static_method_get, descr_get_by, start_with, descr_get_rest, descr_get_say, set_by_method, getset_set, descr_set_by, descr_set_say, super_get_say, super_init_rest, super_init_say, super_check_say, descriptor_say}
-use Rattle.proto_attr.specs.ProtoDescr.Members.{or_empty, read_member, member_get, takes, set_member, member_set}
-use Rattle.proto_attr.specs.ProtoDescr.Properties.{call_part, property_get, set_part, property_set}
-use Rattle.proto_attr.specs.ProtoDescr.Supers.{is_none, told_start, starting, check_class, super_check, super_get, super_bound, found_after, looked_up, super_attribute, set_super, super_started, Parts, super_parts, init_by, super_init}
-use Rattle.plain_machine.specs.Plain.{Datum, AMethodDescriptor, AGetSet, AClassMethod, AStaticMethod, AMember, AProperty, ASuper, PlainWorld, DescriptorJob, DoDescrGet, DoDescrSet, DoSuperGet, DoSuperInit, DoSuperCheck, AsValue, AsStart, Ended, ReadObjects, Told, Said, Asks, Ends}
-use Rattle.plain_machine.specs.World.{is_text, datum_at, class_at, slot_at, bound}
-use Rattle.plain_machine.specs.Objects.{type_object, class_number, derives, is_instance, for_objects, for_classes}
-use Rattle.plain_machine.specs.Row.{Row, start, end, done, none, pass, fault, on_value, on_done}
-use Rattle.plain_machine.specs.Native.{native_task}
-use Rattle.plain_machine.specs.Members.{value_at_place}
-use Rattle.py_node.specs.Known.{known_text}
-use Rattle.py_node.specs.Tree.{Text}
-use Rattle.class_model.specs.Class.{is_sub}
+use Rattle.proto_attr.specs.ProtoDescr.Say.{set_by_method}
+use Rattle.proto_attr.specs.ProtoDescr.Supers.{is_none, init_by}
 use Rattle.class_model.specs.Layout.{place_at}
 
 -- a row that goes on with the answer, and with the objects that it read before it asked, if any

@@ -1,58 +1,25 @@
 -- The natives of descriptors, getters and setters that end at once answer with objects.
-use Rattle.std.proofs.Common.{Bool, List, None, Ok, Option, Some, length, map, nat_le, option_and_then, option_map, pos, ℕ, []}
-use Rattle.py_node.specs.declared.refs.PyObjectRef.{PyObjectRef}
-use Rattle.py_node.specs.declared.raised.Cause.{Cause}
-use Rattle.py_node.specs.declared.raised.Cause.TheVariants.{NameType, NoAttribute, BasesShape, NotAClass, NoDict, CannotDelete}
-use Rattle.py_node.specs.declared.payload.PyProperty.{PyProperty}
-use Rattle.py_node.specs.declared.built_in.BuiltIn.{BuiltIn}
+use Rattle.vm_calls.proofs.Below.{Bool, List, None, Ok, Option, Some, length, map, nat_le, pos, ℕ, [], PyObjectRef, Cause, NameType, NoAttribute, BasesShape, NotAClass, NoDict, CannotDelete, PyProperty, BuiltIn, Detail, Property, CallableNative, DescriptorNative, PropertyNative, WrapperNative, SuperNative, bases_of, lin, refused_class, refused_rebase, signature_of, in_length, method_in, member_in, super_in, static_in, property_in, property_part as property_with_part, method_text, member_text, callable_say, descriptor_native_say, super_text, super_say, changed, wrapper_say, placed, with_parts, without_none, may_name, with_all_parts, property_made, bare, part_set, property_say, given, builtins, or_nothing, Kind, NamePart, DottedPart, WholePart, ClassPart, ObjectPart, SignaturePart, LaterPart, part_of, dotted_text, whole_text, signature_given, part_given, getter_of_say, given_or, or_zero, class_read, dict_or_fault, own_dict, getter_say, unless_refused, renamed, set_annotations, classes_in, rebased, set_bases, set_class_dict, with_heap_value, set_name, set_qualname, class_written, reclassed, set_class, is_dict, redicted, set_dict, setter_say, with_doc, set_of_property, setter_of_say, maker_say, class_dict, given_annotations, annotations, has_null, Datum, ATuple, AList, ADict, AStaticMethod, AProperty, ASuper, Bindings, PlainWorld, Told, Said, ref, datum_at, class_at, class_number, the_object, the_tuple, dict_of, name_at, known_text, Text, is_heap_at, attrs_of, flags_at}
+use Rattle.std.proofs.Common.{option_and_then, option_map}
 use Rattle.py_node.specs.declared.built_in.BuiltIn.TheVariants as built_in
-use Rattle.py_node.specs.declared.entry.Detail.{Detail}
 use Rattle.py_node.specs.declared.entry.Detail.TheVariants as detail
-use Rattle.py_node.specs.declared.entry.Property.{Property}
 use Rattle.py_node.specs.declared.entry.Property.TheVariants as property
-use Rattle.py_node.specs.declared.entry.CallableNative.{CallableNative}
 use Rattle.py_node.specs.declared.entry.CallableNative.TheVariants as callable
-use Rattle.py_node.specs.declared.entry.DescriptorNative.{DescriptorNative}
 use Rattle.py_node.specs.declared.entry.DescriptorNative.TheVariants as descriptor
-use Rattle.py_node.specs.declared.entry.PropertyNative.{PropertyNative}
 use Rattle.py_node.specs.declared.entry.PropertyNative.TheVariants as parts
-use Rattle.py_node.specs.declared.entry.WrapperNative.{WrapperNative}
 use Rattle.py_node.specs.declared.entry.WrapperNative.TheVariants as wrapper
-use Rattle.py_node.specs.declared.entry.SuperNative.{SuperNative}
 use Rattle.py_node.specs.declared.entry.SuperNative.TheVariants as super
-use Rattle.class_model.specs.Class.{class_at as class_numbered, bases_of, lin}
-use Rattle.class_table.specs.Rebase.{refused_class, refused_rebase}
-use Rattle.row_kit.specs.OfSignatures.Signature.{signature_of}
-use Rattle.row_kit.specs.Say.{in_length}
-use Rattle.proto_attr.specs.NativeObjects.Takes.{method_in, member_in, super_in, static_in, property_in}
-use Rattle.proto_attr.specs.NativeObjects.Descriptors.{property_part as property_with_part, method_text, member_text, callable_say, descriptor_native_say, super_text, super_say, changed, wrapper_say, placed, with_parts, without_none, may_name, with_all_parts, property_made, bare, part_set, property_say}
-use Rattle.row_kit.specs.ClassNames.{text_of as name_of, given, builtins, or_nothing}
+use Rattle.class_model.specs.Class.{class_at as class_numbered}
+use Rattle.row_kit.specs.ClassNames.{text_of as name_of}
 use Rattle.py_node.specs.declared.known.Known.TheVariants as known
 use Rattle.vm_calls.specs.AnswerKinds.Kinds as kinds
-use Rattle.vm_calls.specs.AnswerKinds.Kinds.{Kind}
 use Rattle.vm_calls.proofs.AnswerKinds.Base.{Says, ends}
 use Rattle.vm_calls.proofs.AnswerKinds.Said.{either, takes-one, takes-two, takes-three}
 use Rattle.vm_calls.proofs.AnswerKinds.Gives.{object-given, sized-given, int-given, text-given}
 use Rattle.vm_calls.proofs.AnswerKinds.Own.{there-or, takes-own, takes-lone-class, takes-one-or-two, takes-class-and-given, takes-heir}
 use Rattle.vm_calls.proofs.AnswerKinds.Objects.{dict-given}
-use Rattle.proto_attr.specs.NativeObjects.Details.{Part, NamePart, DottedPart, WholePart, ClassPart, ObjectPart, SignaturePart, LaterPart, part_of, dotted_text, whole_text, signature_given, part_given, getter_of_say}
-use Rattle.proto_attr.specs.NativeObjects.Getters.{given_or, tuple_made, or_zero, class_read, dict_or_fault, own_dict, getter_say}
-use Rattle.proto_attr.specs.NativeObjects.Setters.{unless_refused, renamed, set_annotations, classes_in, rebased, set_bases, set_class_dict, with_heap_value, set_name, set_qualname, class_written, reclassed, set_class, is_dict, redicted, set_dict, setter_say}
-use Rattle.proto_attr.specs.NativeObjects.DetailSetters.{with_doc, set_of_property, setter_of_say}
-use Rattle.proto_attr.specs.NativeObjects.Makers.{maker_say}
-use Rattle.proto_attr.specs.NativeObjects.Attributes.{class_dict, given_annotations, annotations}
-use Rattle.row_kit.specs.Questions.{has_null}
-use Rattle.plain_machine.specs.Plain.{Datum, ATuple, AList, ADict, AStaticMethod, AProperty, ASuper, Bindings, PlainWorld, Told, Said}
-use Rattle.plain_machine.specs.World.{ref, datum_at, class_at}
-use Rattle.plain_machine.specs.Objects.{class_number}
-use Rattle.plain_machine.specs.Known.{the_object, the_tuple}
-use Rattle.plain_machine.specs.Dicts.{dict_of}
-use Rattle.plain_machine.specs.ClassText.{name_at}
-use Rattle.py_node.specs.Known.{known_text}
-use Rattle.py_node.specs.Tree.{Text}
-use Rattle.class_model.specs.Slot.{is_heap_at}
-use Rattle.class_model.specs.Collect.{attrs_of}
-use Rattle.class_world.specs.Sound.{flags_at}
+use Rattle.proto_attr.specs.NativeObjects.Details.{Part}
+use Rattle.proto_attr.specs.NativeObjects.Getters.{tuple_made}
 
 pub callable-native : {q : Told → Kind → Bool} (w : PlainWorld) (n : CallableNative) (args : List PyObjectRef) (kw : Bindings) → Says q kinds.Value (callable_say w n args kw)
 callable-native w callable.ReprMethodDescriptor args kw = takes-own method_in w args _ (λ o m. takes-one w args kw _ (λ a. text-given w (in_length (method_text w m))))

@@ -1,18 +1,9 @@
 -- What a slot's entry is asked for, and rows that go over items.
-use Rattle.std.proofs.Common.{◌++◌, Bool, Err, List, Ok, Result, Some, cond, false, length, nat_le, suc, true, zero, ℕ, ℤ, ◌∷◌, []}
-use Rattle.py_node.specs.declared.refs.PyObjectRef.{PyObjectRef}
-use Rattle.py_node.specs.declared.entry.SlotEntry.{SlotEntry}
-use Rattle.py_node.specs.declared.entry.SlotEntry.TheVariants.{Native, Wrapper, Unhashable}
-use Rattle.py_node.specs.declared.raised.Cause.TheVariants.{TooLong}
-use Rattle.py_node.specs.declared.known.Known.{Known}
+use Rattle.vm_calls.proofs.Below.{Bool, Err, List, Ok, Result, Some, cond, false, length, nat_le, suc, true, zero, ℕ, ℤ, [], PyObjectRef, SlotEntry, Native, Wrapper, Unhashable, TooLong, Known, Kind, kind_of_entry, kind_of, entered, on_objects, any_of, each_value, each_number, all_items, turned, each_equal, PlainWorld, DoNext, PlainTask, ToProtocol, AsValue, AsTruth, AsObjects, AsExhausted, Ended, Answered, Told, Said, Asks, Ends, Row, end, value, fault, on_value, on_truth, on_number, most_items}
+use Rattle.std.proofs.Common.{◌++◌, ◌∷◌}
 use Rattle.vm_calls.specs.AnswerKinds.Kinds as kinds
-use Rattle.vm_calls.specs.AnswerKinds.Kinds.{Kind, kind_of_entry, kind_of}
 use Rattle.vm_calls.proofs.AnswerKinds.Base.{So, Fits, within, Family, GoesOn, KindedFor, Kinded, ended, Says, asks, asking, one_of, on-value, on-truth, on-number, native-asked, native-given, is_given}
 use Rattle.vm_calls.proofs.AnswerKinds.Columns.{gives_in}
-use Rattle.row_kit.specs.ProtoBase.Entered.{entered}
-use Rattle.row_kit.specs.ProtoBase.Each.{on_objects, any_of, each_value, each_number, all_items, turned, each_equal}
-use Rattle.plain_machine.specs.Plain.{PlainWorld, DoNext, PlainTask, ToProtocol, AsValue, AsTruth, AsObjects, AsExhausted, Ended, Answered, Told, Said, Asks, Ends}
-use Rattle.plain_machine.specs.Row.{Row, end, value, fault, on_value, on_truth, on_number, most_items}
 
 pub entered-asked : {q : Told → Kind → Bool} {k : Kind} (w : PlainWorld) (learnt : Told) (e : SlotEntry) (x : Known) (o : PyObjectRef) (args : List PyObjectRef) → So (q learnt (kind_of_entry e)) → Says q k (Asks w learnt (entered e x o args))
 entered-asked w learnt (Native n) x o args h = native-asked w learnt n (o ∷ args) [] h

@@ -1,41 +1,23 @@
 -- The rows of expressions answer with objects.
-use Rattle.std.proofs.Common.{◌++◌, Bool, Err, List, None, Ok, Option, Some, cond, drop, eqb, false, is_some, length, nat_le, not, take, true, ℕ, ℤ, ◌∷◌, []}
-use Rattle.py_node.specs.declared.refs.PyObjectRef.{PyObjectRef}
-use Rattle.py_node.specs.declared.raised.Cause.TheVariants.{ArgCount, IterEnd, KeyType, RepeatedKeyword, TooLong, Body}
-use Rattle.py_node.specs.declared.entry.SlotId.TheVariants.{Call}
-use Rattle.py_node.specs.declared.expr.Word.{Word}
+use Rattle.vm_calls.proofs.Below.{Bool, Err, List, None, Ok, Option, Some, cond, drop, eqb, false, is_some, length, nat_le, not, take, true, ℕ, ℤ, [], PyObjectRef, ArgCount, IterEnd, KeyType, RepeatedKeyword, TooLong, Body, Call, Word, Manner, Counted, Part, made as made_of, one_of as lone, Text, Tree, TAttr, TConst, TName, TBind, TTuple, TList, TDict, TFunc, TSetAttr, TDelAttr, TCall, TOp, TIf, TSeq, TRaise, TClass, KeyedTrees, no_keyed, Trees, Literal, LNone, LFalse, LTrue, LInt, LText, list_of, entry_trees, Kind, kind_of, const_say, built_in_named, named_say, name_say, bind_say, Pairs, evaluate_pairs, make_dict, dict_say, change_attr, set_attr_say, del_attr_say, attr_say, entry_names, unrepeated, on_keywords, given_say, arguments_say, invoke_say, callee_say, called_say, class_by, class_within, class_say, branch_say, if_say, last_or_none, operand_trees, own_say, eval_say, unless_exhausted, manner_of, of_one, of_two, of_three, task_for, with_index, counted_task, counted_outcome, counted_by, counted_say, part_task, part_outcome, part_stop, part_start, part_say, slice_say, set_slice_say, del_slice_say, type_of, callable_of, format_of, has_attr_of, by_manner, Datum, ANumber, AText, ATuple, AList, ADict, AFunction, Bindings, PlainWorld, EvalJob, DoEval, DoGetAttr, DoSetAttr, DoHasAttr, DoLoadMethod, DoInvoke, DoCall, DoIsTrue, DoIndex, DoFormat, PlainTask, ToEval, ToAttribute, ToCall, ToProtocol, ToObject, AsValue, AsObjects, AsExhausted, AsFunction, AsAttribute, Ended, Said, datum_at, number_of, slot_at, with_node, with_binding, or_else_var, variable, type_object, the_int, the_str, the_tuple, the_list, the_dict, the_function, Row, start, ask, end, value, none, pass, fault, on_value, on_done, make, most_items, limited, truth, fits_index, evaluate, entries_from, with_text, two_of, filled, key_at, entries}
+use Rattle.std.proofs.Common.{◌++◌, ◌∷◌}
 use Rattle.py_node.specs.declared.expr.Word.TheVariants as word
 use Rattle.py_node.specs.declared.expr.SequenceWord.TheVariants as sequence
 use Rattle.py_node.specs.declared.expr.ObjectWord.TheVariants as object
 use Rattle.py_node.specs.declared.task.PyNumberBinaryOp.TheVariants as op
 use Rattle.proto_call.specs.declared.eval_forms.outcome.Outcome.{Outcome}
 use Rattle.proto_call.specs.declared.eval_forms.outcome.Outcome.TheVariants as outcome
-use Rattle.proto_call.specs.declared.eval_forms.manner.Manner.{Manner}
 use Rattle.proto_call.specs.declared.eval_forms.manner.Manner.TheVariants as manner
-use Rattle.proto_call.specs.declared.eval_forms.bounds.Counted.{Counted}
 use Rattle.proto_call.specs.declared.eval_forms.bounds.Counted.TheVariants as counted
-use Rattle.proto_call.specs.declared.eval_forms.bounds.Part.{Part}
 use Rattle.proto_call.specs.declared.eval_forms.bounds.Part.TheVariants as part
-use Rattle.proto_call.specs.EvalForms.Words.{is_of as same_of, on_objects as on_collected, made as made_of, asked as word_asked, one_of as lone, index_by as number_by}
-use Rattle.py_node.specs.Tree.{Text, Tree, TAttr, TConst, TName, TBind, TTuple, TList, TDict, TFunc, TSetAttr, TDelAttr, TCall, TOp, TIf, TSeq, TRaise, TClass, KeyedTrees, no_keyed, Trees, Entries, Literal, LNone, LFalse, LTrue, LInt, LText, list_of, entry_trees}
+use Rattle.proto_call.specs.EvalForms.Words.{is_of as same_of, on_objects as on_collected, asked as word_asked, index_by as number_by}
+use Rattle.py_node.specs.Tree.{Entries}
 use Rattle.py_node.specs.Tree.{keyed as keyed_tree}
 use Rattle.vm_calls.specs.AnswerKinds.Kinds as kinds
-use Rattle.vm_calls.specs.AnswerKinds.Kinds.{Kind, kind_of}
 use Rattle.vm_calls.proofs.AnswerKinds.Base.{So, Fits, within, Kinded, ended, Says, ends, asks, at_once, never, started, asking, finished, passed, on-value, on-truth, on-number, on-done, ended-by}
 use Rattle.vm_calls.proofs.AnswerKinds.Said.{either, takes-text}
 use Rattle.vm_calls.proofs.AnswerKinds.Guards.{guarded, make-row, limited-row}
-use Rattle.proto_call.specs.EvalForms.Say.{const_say, built_in_named, named_say, name_say, bind_say, Pairs, tested, evaluate_pairs, make_dict, dict_say, change_attr, set_attr_say, del_attr_say, attr_say, entry_names, unrepeated, on_keywords, given_say, arguments_say, invoke_say, on_method, callee_say, called_say, class_by, class_within, class_say, branch_say, if_say, last_or_none, operand_trees, own_say, eval_say}
-use Rattle.proto_call.specs.EvalForms.Words.{unless_exhausted, manner_of, of_one, of_two, of_three, task_for, with_index, counted_task, counted_outcome, counted_by, counted_say, part_task, part_outcome, part_stop, part_start, part_say, slice_say, set_slice_say, del_slice_say, type_of, callable_of, format_of, has_attr_of, by_manner}
-use Rattle.plain_machine.specs.Plain.{Datum, ANumber, AText, ATuple, AList, ADict, AFunction, Bindings, PlainWorld, EvalJob, DoEval, DoGetAttr, DoSetAttr, DoHasAttr, DoLoadMethod, DoInvoke, DoCall, DoIsTrue, DoIndex, DoFormat, PlainTask, ToEval, ToAttribute, ToCall, ToProtocol, ToObject, AsValue, AsObjects, AsExhausted, AsFunction, AsAttribute, Ended, Said}
-use Rattle.plain_machine.specs.World.{datum_at, number_of, slot_at, with_node, with_binding, or_else_var, variable}
-use Rattle.plain_machine.specs.Objects.{type_object}
-use Rattle.plain_machine.specs.Known.{the_int, the_str, the_tuple, the_list, the_dict, the_function}
-use Rattle.plain_machine.specs.Row.{Row, start, ask, end, value, none, pass, fault, on_value, on_done, make, most_items, limited, truth, fits_index, evaluate}
-use Rattle.plain_machine.specs.Dicts.{entries_from}
-use Rattle.plain_machine.specs.Takes.{with_text}
-use Rattle.plain_machine.specs.Args.{two_of, filled}
-use Rattle.plain_machine.specs.Sound.{key_at}
-use Rattle.class_model.specs.Slot.{entries}
+use Rattle.proto_call.specs.EvalForms.Say.{tested, on_method}
 
 -- operands are evaluated in order
 evaluated : (es : List Tree) (go : PlainWorld → List PyObjectRef → Row) → ((vs : List PyObjectRef) → Kinded kinds.Value (λ w. go w vs)) → Kinded kinds.Value (λ w. evaluate w es (go w))

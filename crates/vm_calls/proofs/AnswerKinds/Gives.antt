@@ -1,18 +1,9 @@
 -- What natives take that ask no task, and what they give.
-use Rattle.std.proofs.Common.{Bool, Err, List, None, Ok, Option, Result, Some, nat_le, ℕ, ℤ, ◌∷◌, []}
-use Rattle.py_node.specs.declared.refs.PyObjectRef.{PyObjectRef}
-use Rattle.py_node.specs.declared.raised.Raised.{Raised as Fault}
+use Rattle.vm_calls.proofs.Below.{Bool, Err, List, None, Ok, Option, Result, Some, nat_le, ℕ, ℤ, [], PyObjectRef, Raised as Fault, Kind, object_made, size_of, sized_made, int_made, text_made, iterator_made, number_in, with_number, with_lone_number, with_number_and, both_numbers, numbers_of, with_numbers, Datum, ANumber, AText, Bindings, PlainWorld, Told, Said, datum_at, number_of, the_int, the_str, most_items, with_one, with_two, Text}
+use Rattle.std.proofs.Common.{◌∷◌}
 use Rattle.vm_calls.specs.AnswerKinds.Kinds as kinds
-use Rattle.vm_calls.specs.AnswerKinds.Kinds.{Kind}
 use Rattle.vm_calls.proofs.AnswerKinds.Base.{Says, ends}
 use Rattle.vm_calls.proofs.AnswerKinds.Said.{either, takes-one, takes-two}
-use Rattle.row_kit.specs.Say.{object_made, size_of, sized_made, int_made, text_made, iterator_made, number_in, with_number, with_lone_number, with_number_and, both_numbers, numbers_of, with_numbers}
-use Rattle.plain_machine.specs.Plain.{Datum, ANumber, AText, Bindings, PlainWorld, Told, Said}
-use Rattle.plain_machine.specs.World.{datum_at, number_of}
-use Rattle.plain_machine.specs.Known.{the_int, the_str}
-use Rattle.plain_machine.specs.Row.{most_items}
-use Rattle.plain_machine.specs.Takes.{with_one, with_two}
-use Rattle.py_node.specs.Tree.{Text}
 
 pub object-given : {q : Told → Kind → Bool} (w : PlainWorld) (c : ℕ) (d : Datum) → Says q kinds.Value (object_made w c d)
 object-given w c d = ends tt

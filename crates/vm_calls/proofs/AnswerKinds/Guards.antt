@@ -1,11 +1,8 @@
 -- A row that goes on only while a test of the world holds, and else ends.
-use Rattle.std.proofs.Common.{◌++◌, Bool, List, cond, false, inl, inr, length, nat_le, refl, subst, suc, sym, true, zero, ℕ, ◌∷◌, ◌≡◌, ◌⊎◌, []}
-use Rattle.py_node.specs.declared.raised.Cause.TheVariants.{TooLong}
+use Rattle.vm_calls.proofs.Below.{Bool, List, cond, false, inl, inr, length, nat_le, refl, subst, suc, sym, true, zero, ℕ, [], TooLong, Kind, Datum, PlainWorld, Ended, Answered, Told, Said, Asks, Ends, Row, end, fault, make, most_items, limited}
+use Rattle.std.proofs.Common.{◌++◌, ◌∷◌, ◌≡◌, ◌⊎◌}
 use Rattle.vm_calls.specs.AnswerKinds.Kinds as kinds
-use Rattle.vm_calls.specs.AnswerKinds.Kinds.{Kind}
 use Rattle.vm_calls.proofs.AnswerKinds.Base.{Fits, Family, after, GoesOn, KindedFor, Kinded, ended, ends, finished, one_of}
-use Rattle.plain_machine.specs.Plain.{Datum, PlainWorld, Ended, Answered, Told, Said, Asks, Ends}
-use Rattle.plain_machine.specs.Row.{Row, end, fault, make, most_items, limited}
 
 -- the same as a row, or ended
 abbrev pub IsGuarded : Family → Family → Ended → Type 0

@@ -1,13 +1,8 @@
 -- The rows of items, slices and views answer of their kinds.
-use Rattle.std.proofs.Common.{Bool, Err, None, Ok, Option, Some, cond, false, suc, true, zero, ℕ, ℤ, ◌∷◌, []}
-use Rattle.py_node.specs.declared.refs.PyObjectRef.{PyObjectRef}
-use Rattle.py_node.specs.declared.raised.Cause.TheVariants.{NotSubscriptable, NonIterableMethod}
-use Rattle.py_node.specs.declared.entry.SlotId.TheVariants.{MapSubscript, MapAssSubscript, SeqItem}
-use Rattle.py_node.specs.declared.entry.SlotEntry.{SlotEntry}
-use Rattle.py_node.specs.declared.known.Known.{Known}
+use Rattle.vm_calls.proofs.Below.{Bool, Err, None, Ok, Option, Some, cond, false, suc, true, zero, ℕ, ℤ, [], PyObjectRef, NotSubscriptable, NonIterableMethod, MapSubscript, MapAssSubscript, SeqItem, SlotEntry, Known, Kind, items_job_say, is_subscripted, get_item_by, item_by, class_item, get_item_rest, get_item_say, deleted, set_item_by, del_item_by, assigner, ends_done, with_slice, get_slice_by, set_slice_by, del_slice_by, on_method, on_iterable, listed_by, listed, view_by, view_say, all_items, entered, is_exactly, list_made, keys_of, values_of, pairs_made, entries_at, AList, PlainWorld, DoInvoke, DoCall, DoGetItem, DoSetItem, DoDelItem, DoGetSlice, DoSetSlice, DoDelSlice, DoKeys, DoValues, DoItems, ToAttribute, ToCall, AsValue, AsFunction, AsAttribute, Ended, Chose, Told, Said, slot_at, the_list, the_dict, start, ask, end, done, pass, fault, is_attribute_error, on_value, make, Entries}
+use Rattle.std.proofs.Common.{◌∷◌}
 use Rattle.py_node.specs.declared.known.Known.TheVariants as known
 use Rattle.vm_calls.specs.AnswerKinds.Kinds as kinds
-use Rattle.vm_calls.specs.AnswerKinds.Kinds.{Kind}
 use Rattle.vm_calls.proofs.AnswerKinds.Base.{So, Fits, Kinded, ended, Says, ends, asks, at_once, on_way, started, forked, asking, finished, passed, on-value, on-done, whatever, started_so, either-fits}
 use Rattle.vm_calls.proofs.AnswerKinds.Said.{either}
 use Rattle.vm_calls.proofs.AnswerKinds.Columns.{gives_in, slot-at-gives}
@@ -15,19 +10,6 @@ use Rattle.vm_calls.proofs.AnswerKinds.Tables.{item-column, subscript-column}
 use Rattle.vm_calls.proofs.AnswerKinds.Gives.{object-given}
 use Rattle.vm_calls.proofs.AnswerKinds.Containers.{pairs-given}
 use Rattle.vm_calls.proofs.AnswerKinds.Entries.{entered-asked, entry-value, all-row}
-use Rattle.proto_object.specs.ProtoItems.Say.{items_job_say}
-use Rattle.proto_object.specs.ProtoItems.Items.{is_subscripted, get_item_by, item_by, class_item, get_item_rest, get_item_say, deleted, set_item_by, del_item_by, assigner, ends_done}
-use Rattle.proto_object.specs.ProtoItems.Slices.{with_slice, get_slice_by, set_slice_by, del_slice_by}
-use Rattle.proto_object.specs.ProtoItems.Views.{on_method, on_iterable, listed_by, listed, view_by, view_say}
-use Rattle.row_kit.specs.ProtoBase.Each.{all_items}
-use Rattle.row_kit.specs.ProtoBase.Entered.{entered, is_exactly}
-use Rattle.row_kit.specs.GiveContainers.{list_made, keys_of, values_of, pairs_made}
-use Rattle.row_kit.specs.TakeContainers.{entries_at}
-use Rattle.plain_machine.specs.Plain.{AList, PlainWorld, DoInvoke, DoCall, DoGetItem, DoSetItem, DoDelItem, DoGetSlice, DoSetSlice, DoDelSlice, DoKeys, DoValues, DoItems, ToAttribute, ToCall, AsValue, AsFunction, AsAttribute, Ended, Chose, Told, Said}
-use Rattle.plain_machine.specs.World.{slot_at}
-use Rattle.plain_machine.specs.Known.{the_list, the_dict}
-use Rattle.plain_machine.specs.Row.{start, ask, end, done, pass, fault, is_attribute_error, on_value, make}
-use Rattle.plain_machine.specs.Dicts.{Entries}
 
 get-item-said : (w : PlainWorld) (e seq : Option SlotEntry) (class : Bool) (o k : PyObjectRef) → So (gives_in kinds.Value e) → Says (on_way (λ n. kinds.Value)) kinds.Value (get_item_by w e seq class o k)
 get-item-said w (Some e) seq class o k h = entered-asked w (Chose 0 ∷ []) e known.GetItem o (k ∷ []) (entry-value e h)

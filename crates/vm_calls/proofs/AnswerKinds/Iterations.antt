@@ -1,27 +1,14 @@
 -- The rows of iterations answer of their kinds.
-use Rattle.std.proofs.Common.{◌||◌, Bool, Err, None, Ok, Option, Result, Some, cond, eqb, false, is_some, pos, suc, true, zero, ℕ, ◌∷◌, if◌then◌else◌, []}
-use Rattle.py_node.specs.declared.refs.PyObjectRef.{PyObjectRef}
-use Rattle.py_node.specs.declared.raised.Cause.TheVariants.{IndexRange, NotFound, NotIterator}
-use Rattle.py_node.specs.declared.entry.SlotId.TheVariants.{Iter, Iternext, SeqItem, SeqContains}
-use Rattle.py_node.specs.declared.entry.SlotEntry.{SlotEntry}
-use Rattle.py_node.specs.declared.entry.SlotEntry.TheVariants.{Native}
+use Rattle.vm_calls.proofs.Below.{Bool, Err, None, Ok, Option, Result, Some, cond, eqb, false, is_some, pos, suc, true, zero, ℕ, [], PyObjectRef, IndexRange, NotFound, NotIterator, Iter, Iternext, SeqItem, SeqContains, SlotEntry, Native, fixed_true, fixed_false, number as number_ended, says, objects, all_items, each_equal, truth_of as truth_in, Kind, iter_job_say, get_iter_by, iterator_only, next_by, is_stop, next_rest, collect_by, contains_by, until_true, contains_rest, counted, one_more, until_found, is_plain, PlainWorld, DoIsTrue, DoGetIter, DoNext, DoCollect, DoContains, DoCount, DoFind, ToProtocol, AsValue, AsExhausted, Ended, Chose, slot_at, start, ask, end, value, pass, fault, on_value, fits_index}
+use Rattle.std.proofs.Common.{◌||◌, ◌∷◌, if◌then◌else◌}
 use Rattle.py_node.specs.declared.known.Known.TheVariants as known
-use Rattle.py_node.specs.BuiltIns.{fixed_true, fixed_false}
-use Rattle.row_kit.specs.ProtoBase.Each.{number as number_ended, says, objects, all_items, each_equal}
-use Rattle.row_kit.specs.IntValues.{truth_of as truth_in}
 use Rattle.vm_calls.specs.AnswerKinds.Kinds as kinds
-use Rattle.vm_calls.specs.AnswerKinds.Kinds.{Kind}
 use Rattle.vm_calls.proofs.AnswerKinds.Base.{So, Fits, wider, Kinded, ended, Says, ends, asks, at_once, on_way, started, forked, asking, passed, on-value, ended-by, either-fits}
 use Rattle.vm_calls.proofs.AnswerKinds.Columns.{gives_in, slot-at-gives}
 use Rattle.vm_calls.proofs.AnswerKinds.Tables.{iter-column, next-column, contains-column}
 use Rattle.vm_calls.proofs.AnswerKinds.Gives.{iterator-given}
 use Rattle.vm_calls.proofs.AnswerKinds.Entries.{entered-asked, entry-value, all-row, FitsTurn, search-row}
-use Rattle.proto_object.specs.ProtoIter.Say.{iter_job_say}
-use Rattle.proto_object.specs.ProtoIter.Iteration.{get_iter_by, iterator_only, next_by, is_stop, next_rest, collect_by, contains_by, as_truth, until_true, contains_rest, counted, one_more, until_found}
-use Rattle.row_kit.specs.ProtoBase.Entered.{is_plain}
-use Rattle.plain_machine.specs.Plain.{PlainWorld, DoIsTrue, DoGetIter, DoNext, DoCollect, DoContains, DoCount, DoFind, ToProtocol, AsValue, AsExhausted, Ended, Chose}
-use Rattle.plain_machine.specs.World.{slot_at}
-use Rattle.plain_machine.specs.Row.{start, ask, end, value, pass, fault, on_value, fits_index}
+use Rattle.proto_object.specs.ProtoIter.Iteration.{as_truth}
 
 get-iter-said : (w : PlainWorld) (e : Option SlotEntry) (seq : Bool) (o : PyObjectRef) → So (gives_in kinds.Value e) → Says (at_once kinds.Value) kinds.Value (get_iter_by w e seq o)
 get-iter-said w (Some e) seq o h = entered-asked w [] e known.Iter o [] (entry-value e h)

@@ -1,8 +1,6 @@
 -- A task's answer is of its kind, where each task's row is: whatever is asked on the way is so before.
-use Rattle.std.proofs.Common.{◌≡◌, ℕ, zero, suc, Bool, true, false, cond, nat_lt, length, [], ◌∷◌, ◌++◌, Ok, subst, append_assoc, append-nil}
-use Rattle.plain_machine.specs.Plain.{PlainWorld, PlainTask, PlainAnswer, Ended, Answered, Told, Said, Asks, Ends, Saying}
-use Rattle.plain_machine.specs.Answer.{Over, NoUnits, Outcome, Out, Follow, carry, asked, step, follow, reach, closing, answer}
-use Rattle.vm_calls.specs.AnswerKinds.Kinds.{Kind, is_of, kind_of}
+use Rattle.vm_calls.proofs.Below.{ℕ, zero, suc, Bool, true, false, cond, nat_lt, length, [], Ok, subst, append_assoc, append-nil, PlainWorld, PlainTask, PlainAnswer, Ended, Answered, Told, Said, Asks, Ends, Saying, Over, NoUnits, Outcome, Out, Follow, carry, asked, step, follow, reach, closing, answer, Kind, is_of, kind_of}
+use Rattle.std.proofs.Common.{◌≡◌, ◌∷◌, ◌++◌}
 use Rattle.vm_calls.proofs.AnswerKinds.Base.{So, Fits, Family, GoesOn, Kinded, goes-on}
 
 -- where a task is over, its answer is of the kind

@@ -1,11 +1,8 @@
 -- Each native that stands in no group of tasks answers of its kind.
-use Rattle.std.proofs.Common.{List, Some}
-use Rattle.py_node.specs.declared.refs.PyObjectRef.{PyObjectRef}
-use Rattle.py_node.specs.declared.built_in.BuiltIn.{BuiltIn}
+use Rattle.vm_calls.proofs.Below.{List, Some, PyObjectRef, BuiltIn, Detail, NativeEntry, OfObject, OfType, OfInt, OfCallable, OfFixed, OfNumber, OfArithmetic, OfBits, OfStr, OfTuple, OfList, OfDict, OfDescriptor, OfProperty, OfWrapper, OfSuper, OfIterator, Compare, Getter, Setter, GetterOf, SetterOf, NewOf, NewWrapper, NativeJob, native_say, native_job_say, native_by, StrNative, TupleNative, ListNative, DictNative, IteratorNative, CallableNative, DescriptorNative, PropertyNative, WrapperNative, SuperNative, CompareNative, Kind, kind_of_native, Bindings, PlainWorld, Said, start, end}
 use Rattle.py_node.specs.declared.built_in.BuiltIn.TheVariants as built_in
 use Rattle.py_node.specs.declared.entry.CallableNative.TheVariants as callable
 use Rattle.py_node.specs.declared.entry.DescriptorNative.TheVariants as descriptor
-use Rattle.py_node.specs.declared.entry.Detail.{Detail}
 use Rattle.py_node.specs.declared.entry.Detail.TheVariants as detail
 use Rattle.py_node.specs.declared.entry.DictNative.TheVariants as dict
 use Rattle.py_node.specs.declared.entry.IteratorNative.TheVariants as iterator
@@ -15,8 +12,6 @@ use Rattle.py_node.specs.declared.entry.StrNative.TheVariants as str
 use Rattle.py_node.specs.declared.entry.SuperNative.TheVariants as super
 use Rattle.py_node.specs.declared.entry.TupleNative.TheVariants as tuple
 use Rattle.py_node.specs.declared.entry.WrapperNative.TheVariants as wrapper
-use Rattle.py_node.specs.declared.entry.NativeEntry.{NativeEntry}
-use Rattle.py_node.specs.declared.entry.NativeEntry.TheVariants.{OfObject, OfType, OfInt, OfCallable, OfFixed, OfNumber, OfArithmetic, OfBits, OfStr, OfTuple, OfList, OfDict, OfDescriptor, OfProperty, OfWrapper, OfSuper, OfIterator, Compare, Getter, Setter, GetterOf, SetterOf, NewOf, NewWrapper}
 use Rattle.row_kit.specs.declared.take_containers.Kind.TheVariants as kind
 use Rattle.native_containers.specs.declared.native_parts.take.Container.TheVariants as shown
 use Rattle.native_containers.specs.declared.native_parts.wrapped.Wrapper.TheVariants as wraps
@@ -24,20 +19,7 @@ use Rattle.proto_ops.specs.declared.native_repeats.kind.Repeated.TheVariants as 
 use Rattle.proto_attr.specs.declared.native_calls.way.Kind.TheVariants as bound
 use Rattle.proto_attr.specs.declared.native_calls.way.Setting.TheVariants as setting
 use Rattle.proto_attr.specs.declared.native_calls.way.Wrapper.TheVariants as wrapping
-use Rattle.vm_eval.specs.OfNatives.Say.{NativeJob, native_say, native_job_say, native_by}
-use Rattle.py_node.specs.declared.entry.StrNative.{StrNative}
-use Rattle.py_node.specs.declared.entry.TupleNative.{TupleNative}
-use Rattle.py_node.specs.declared.entry.ListNative.{ListNative}
-use Rattle.py_node.specs.declared.entry.DictNative.{DictNative}
-use Rattle.py_node.specs.declared.entry.IteratorNative.{IteratorNative}
-use Rattle.py_node.specs.declared.entry.CallableNative.{CallableNative}
-use Rattle.py_node.specs.declared.entry.DescriptorNative.{DescriptorNative}
-use Rattle.py_node.specs.declared.entry.PropertyNative.{PropertyNative}
-use Rattle.py_node.specs.declared.entry.WrapperNative.{WrapperNative}
-use Rattle.py_node.specs.declared.entry.SuperNative.{SuperNative}
-use Rattle.py_node.specs.declared.entry.CompareNative.{CompareNative}
 use Rattle.vm_calls.specs.AnswerKinds.Kinds as kinds
-use Rattle.vm_calls.specs.AnswerKinds.Kinds.{Kind, kind_of_native}
 use Rattle.vm_calls.proofs.AnswerKinds.Base.{Kinded, Says, ends, never, finished}
 use Rattle.vm_calls.proofs.AnswerKinds.Plainly.{fixed-native, number-native, arithmetic-native, bits-native, compare-native, text-native, compare-text-native}
 use Rattle.vm_calls.proofs.AnswerKinds.Containers.{tuple-native, list-native, dict-native, iterator-native}
@@ -45,8 +27,6 @@ use Rattle.vm_calls.proofs.AnswerKinds.Details.{callable-native, descriptor-nati
 use Rattle.vm_calls.proofs.AnswerKinds.Sequences.{tuple-get-item, list-get-item, list-set-item, list-del-item, contains-row, list-extend, str-get-item, iterator-next}
 use Rattle.vm_calls.proofs.AnswerKinds.Parts.{str-new, tuple-new, list-init, int-new, bool-new, tuple-hash, container-repr, wrapper-repr, sequences-row, dicts-row, repeat-row, property-abstract, member-qualname}
 use Rattle.vm_calls.proofs.AnswerKinds.Binding.{bind-row, set-row, delete-row, looks-row, starts-row, reads-row, marked-row, marks-row, wraps-row, makes-row, calls-row}
-use Rattle.plain_machine.specs.Plain.{Bindings, PlainWorld, Said}
-use Rattle.plain_machine.specs.Row.{start, end}
 
 -- a native that ends at once
 plain : (k : Kind) (said : PlainWorld → Said) → ((w : PlainWorld) → Says never k (said w)) → Kinded k (λ w. start (said w) (end w))

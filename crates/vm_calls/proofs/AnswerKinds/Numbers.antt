@@ -1,29 +1,15 @@
 -- The rows by which an object stands for a truth value, a whole number or a length answer of their kinds.
-use Rattle.std.proofs.Common.{Bool, Err, None, Ok, Option, Some, cond, int_lt, is_some, not, pos, suc, zero, ℕ, ℤ, ◌∷◌, []}
-use Rattle.py_node.specs.declared.refs.PyObjectRef.{PyObjectRef}
-use Rattle.py_node.specs.declared.raised.Cause.TheVariants.{IndexReturn, IntReturn, TruncReturn, IndexRange, NegativeLength}
+use Rattle.vm_calls.proofs.Below.{Bool, Err, None, Ok, Option, Some, cond, int_lt, is_some, not, pos, suc, zero, ℕ, ℤ, [], PyObjectRef, IndexReturn, IntReturn, TruncReturn, IndexRange, NegativeLength, SlotEntry, Native, Wrapper, option_or, tested as length_tested, as_number as length_number, length_given, length_by, length_rest, length_slot, length_say, is_type_error, or_given, expected_by, hinted, expected_given, expected_say, hint_rest, hint_say, truth_of as truth_in, is_int, as_int, is_zero, Kind, number_job_say, as_truth, truth_asked, bool_at, truth_given, truth_rest, is_true_say, number_given, index_asked, index_by, index_say, spelled, text_number, truncated_by, has_index, whole_by, truncated, whole_rest, whole_say, Datum, AText, PlainWorld, DoCall, DoIsTrue, DoIndex, DoWhole, DoLength, DoHint, ToCall, ToProtocol, AsValue, Ended, Chose, Told, Ends, datum_at, class_at, number_of, slot_at, special_at, ask, end, value, fault, on_value, is_not_implemented, fits_index, known_text}
+use Rattle.std.proofs.Common.{◌∷◌}
 use Rattle.py_node.specs.declared.entry.SlotId.TheVariants as slots
-use Rattle.py_node.specs.declared.entry.SlotEntry.{SlotEntry}
-use Rattle.py_node.specs.declared.entry.SlotEntry.TheVariants.{Native, Wrapper}
 use Rattle.py_node.specs.declared.known.Known.TheVariants as known
-use Rattle.std.specs.Option.{option_or}
-use Rattle.proto_object.specs.ProtoNumber.Lengths.{tested as length_tested, as_number as length_number, length_given, length_by, length_rest, length_slot, length_say, is_type_error, or_given, expected_by, hinted, expected_given, expected_say, hint_rest, hint_say}
-use Rattle.row_kit.specs.IntValues.{truth_of as truth_in, is_int, as_int, is_zero}
 use Rattle.vm_calls.specs.AnswerKinds.Kinds as kinds
-use Rattle.vm_calls.specs.AnswerKinds.Kinds.{Kind}
 use Rattle.vm_calls.proofs.AnswerKinds.Base.{So, Fits, within, wider, Kinded, ended, Says, ends, asks, at_once, on_way, never, started, forked, asking, finished, one_of, on-value, on-number, ended-by, either-fits, native-asked}
 use Rattle.vm_calls.proofs.AnswerKinds.Said.{either}
 use Rattle.vm_calls.proofs.AnswerKinds.Columns.{gives_in, slot-at-gives}
 use Rattle.vm_calls.proofs.AnswerKinds.Tables.{int-column, length-column, map-length-column}
 use Rattle.vm_calls.proofs.AnswerKinds.Gives.{int-given}
-use Rattle.proto_object.specs.ProtoNumber.Say.{number_job_say}
-use Rattle.proto_object.specs.ProtoNumber.Truth.{as_truth, truth_asked, truth_by, bool_at, truth_given, truth_rest, is_true_say}
-use Rattle.proto_object.specs.ProtoNumber.Numbers.{number_given, index_asked, index_by, index_say, spelled, text_number, truncated_by, has_index, whole_by, truncated, whole_rest, whole_say}
-use Rattle.plain_machine.specs.Plain.{Datum, AText, PlainWorld, DoCall, DoIsTrue, DoIndex, DoWhole, DoLength, DoHint, ToCall, ToProtocol, AsValue, Ended, Chose, Told, Ends}
-use Rattle.plain_machine.specs.World.{datum_at, class_at, number_of, slot_at}
-use Rattle.plain_machine.specs.Objects.{special_at}
-use Rattle.plain_machine.specs.Row.{ask, end, value, fault, on_value, is_not_implemented, fits_index}
-use Rattle.py_node.specs.Known.{known_text}
+use Rattle.proto_object.specs.ProtoNumber.Truth.{truth_by}
 
 -- an object's special method gives a truth value, or its length a number
 abbrev truth_kinds : ℕ → Kind

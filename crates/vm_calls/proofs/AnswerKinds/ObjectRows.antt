@@ -1,36 +1,14 @@
 -- The rows of what all objects can do answer of their kinds.
-use Rattle.std.proofs.Common.{◌&&◌, ◌++◌, Bool, Err, List, None, Ok, Option, Some, cond, eqb, false, map, suc, true, zero, ℕ, ℤ, ◌∷◌, []}
-use Rattle.py_node.specs.declared.refs.PyObjectRef.{PyObjectRef}
-use Rattle.py_node.specs.declared.raised.Cause.{Cause}
-use Rattle.py_node.specs.declared.raised.Cause.TheVariants.{ClassArg, ReprType, StrType, FormatType}
-use Rattle.py_node.specs.declared.entry.SlotId.TheVariants.{Hash, Repr}
-use Rattle.py_node.specs.declared.entry.SlotEntry.{SlotEntry}
-use Rattle.py_node.specs.declared.known.Known.{Known}
+use Rattle.vm_calls.proofs.Below.{Bool, Err, List, None, Ok, Option, Some, cond, eqb, false, map, suc, true, zero, ℕ, ℤ, [], PyObjectRef, Cause, ClassArg, ReprType, StrType, FormatType, Hash, Repr, SlotEntry, Known, keyed, text_of, kind_of_object, kind_of, object_job_say, attribute, way_of, by_way, is_instance_say, is_subclass_say, on_bases, inst_by, other_class, abstract_by, inst_rest, inst_say, sub_by, sub_say, tuple_once, abs_sub_by, abs_sub_say, is_none, hash_entry, hash_by, hashed, hash_rest, hash_say, text_or_fault, text_only, repr_by, repr_say, str_by, str_say, is_unspecified, format_by, format_say, attributes_for, own_keys, other_keys, dir_by, dir_say, says, any_of, is_exactly, items_at, Datum, ATuple, AList, Bindings, PlainWorld, DoSpecial, DoIsTrue, ObjectJob, DoHash, DoRepr, DoStr, DoFormat, DoDir, DoIsInstance, DoInst, DoIsSubclass, DoSub, DoAbsSub, PlainTask, ToAttribute, ToProtocol, ToObject, AsValue, AsNumber, Ended, ReadObjects, Said, Asks, Ends, datum_at, class_at, number_of, slot_at, class_number, special_at, is_instance, the_type, the_str, the_list, Row, start, ask, end, none, pass, fault, is_attribute_error, on_value, noting, dict_of, known_text, Text}
+use Rattle.std.proofs.Common.{◌&&◌, ◌++◌, ◌∷◌}
 use Rattle.py_node.specs.declared.known.Known.TheVariants as known
-use Rattle.row_kit.specs.ClassAttributes.{keyed}
-use Rattle.row_kit.specs.TakeTexts.{text_of}
 use Rattle.vm_calls.specs.AnswerKinds.Kinds as kinds
-use Rattle.vm_calls.specs.AnswerKinds.Kinds.{kind_of_object, kind_of}
 use Rattle.vm_calls.proofs.AnswerKinds.Base.{So, Fits, within, GoesOn, Kinded, ended, Says, ends, asks, at_once, on_way, stepped, goes-on, started, forked, asking, passed, chosen, read_objects_once, on-value, ended-by, either-fits, IsGiven, for_given, started-given}
 use Rattle.vm_calls.proofs.AnswerKinds.Said.{either}
 use Rattle.vm_calls.proofs.AnswerKinds.Columns.{gives_in, slot-at-gives}
 use Rattle.vm_calls.proofs.AnswerKinds.Tables.{repr-column}
 use Rattle.vm_calls.proofs.AnswerKinds.Gives.{sized-given}
 use Rattle.vm_calls.proofs.AnswerKinds.Entries.{entered-asked, entry-value, entry-given, any-row}
-use Rattle.proto_object.specs.Say.{object_job_say}
-use Rattle.proto_object.specs.Classes.{attribute, way_of, by_way, is_instance_say, is_subclass_say, on_bases, inst_by, other_class, abstract_by, inst_rest, inst_say, sub_by, sub_say, tuple_once, abs_sub_by, abs_sub_say}
-use Rattle.proto_object.specs.Texts.{is_none, hash_entry, hash_by, hashed, hash_rest, hash_say, text_or_fault, text_only, repr_by, repr_say, str_by, str_say, is_unspecified, format_by, format_say, attributes_for, own_keys, other_keys, dir_by, dir_say}
-use Rattle.row_kit.specs.ProtoBase.Each.{says, any_of}
-use Rattle.row_kit.specs.ProtoBase.Entered.{is_exactly}
-use Rattle.row_kit.specs.TakeContainers.{items_at}
-use Rattle.plain_machine.specs.Plain.{Datum, ATuple, AList, Bindings, PlainWorld, DoSpecial, DoIsTrue, ObjectJob, DoHash, DoRepr, DoStr, DoFormat, DoDir, DoIsInstance, DoInst, DoIsSubclass, DoSub, DoAbsSub, PlainTask, ToAttribute, ToProtocol, ToObject, AsValue, AsNumber, Ended, ReadObjects, Said, Asks, Ends}
-use Rattle.plain_machine.specs.World.{datum_at, class_at, number_of, slot_at}
-use Rattle.plain_machine.specs.Objects.{class_number, special_at, is_instance}
-use Rattle.plain_machine.specs.Known.{the_type, the_str, the_list}
-use Rattle.plain_machine.specs.Row.{Row, start, ask, end, none, pass, fault, is_attribute_error, on_value, noting}
-use Rattle.plain_machine.specs.Dicts.{dict_of}
-use Rattle.py_node.specs.Known.{known_text}
-use Rattle.py_node.specs.Tree.{Text}
 
 -- tests of classes
 

@@ -1,30 +1,13 @@
 -- The natives of `object` and `type` that ask no task answer of their kinds.
-use Rattle.std.proofs.Common.{Bool, List, None, Option, Some, length, map, nat_le, ℕ, ◌∷◌, []}
-use Rattle.py_node.specs.declared.refs.PyObjectRef.{PyObjectRef}
-use Rattle.py_node.specs.declared.entry.ObjectNative.{ObjectNative}
+use Rattle.vm_calls.proofs.Below.{Bool, List, None, Option, Some, length, map, nat_le, ℕ, [], PyObjectRef, ObjectNative, TypeNative, OfObject, SelfType, Kind, kind_of_native, repr_of, object_subclass_hook, object_native_say, object_text, or_nothing, type_native_say, keys_made, class_text, keyed, or_no_attributes, dict_made, AList, ADict, Bindings, PlainWorld, Told, is_text, ref, datum_at, class_at, class_number, the_list, the_dict, Entries, lin, subclasses, all_attributes}
+use Rattle.std.proofs.Common.{◌∷◌}
 use Rattle.py_node.specs.declared.entry.ObjectNative.TheVariants as object
-use Rattle.py_node.specs.declared.entry.TypeNative.{TypeNative}
 use Rattle.py_node.specs.declared.entry.TypeNative.TheVariants as type
-use Rattle.py_node.specs.declared.entry.NativeEntry.TheVariants.{OfObject}
-use Rattle.py_node.specs.declared.raised.Cause.TheVariants.{SelfType}
 use Rattle.vm_calls.specs.AnswerKinds.Kinds as kinds
-use Rattle.vm_calls.specs.AnswerKinds.Kinds.{Kind, kind_of_native}
 use Rattle.vm_calls.proofs.AnswerKinds.Base.{Says, ends}
 use Rattle.vm_calls.proofs.AnswerKinds.Said.{either, takes-one, takes-two}
 use Rattle.vm_calls.proofs.AnswerKinds.Gives.{object-given, sized-given, text-given}
 use Rattle.vm_calls.proofs.AnswerKinds.Own.{there-or, takes-class, takes-lone-class, takes-class-and}
-use Rattle.proto_call.specs.ObjectNatives.{repr_of, object_subclass_hook, object_native_say, object_text}
-use Rattle.row_kit.specs.ClassNames.{or_nothing}
-use Rattle.proto_call.specs.ClassMake.TypeNatives.{type_native_say, keys_made, class_text}
-use Rattle.row_kit.specs.ClassAttributes.{keyed, or_no_attributes}
-use Rattle.proto_attr.specs.NativeObjects.Attributes.{dict_made}
-use Rattle.plain_machine.specs.Plain.{AList, ADict, Bindings, PlainWorld, Told}
-use Rattle.plain_machine.specs.World.{is_text, ref, datum_at, class_at}
-use Rattle.plain_machine.specs.Objects.{class_number}
-use Rattle.plain_machine.specs.Known.{the_list, the_dict}
-use Rattle.plain_machine.specs.Dicts.{Entries}
-use Rattle.class_model.specs.Class.{lin, subclasses}
-use Rattle.class_model.specs.Collect.{all_attributes}
 
 pub keys-given : {q : Told → Kind → Bool} (w : PlainWorld) (es : Entries) (bs : Bindings) → Says q kinds.Value (keys_made (keyed w es bs))
 keys-given w es bs = sized-given (keyed w es bs).0 the_list (AList (map (λ e. e.0) (keyed w es bs).1))

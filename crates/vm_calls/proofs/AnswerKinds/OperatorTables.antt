@@ -1,20 +1,10 @@
 -- What the natives of the built-in classes answer that stand in the slots of operators.
-use Rattle.py_node.specs.declared.refs.PyObjectRef.{PyObjectRef}
-use Rattle.py_node.specs.declared.built_in.BuiltIn.{BuiltIn}
+use Rattle.vm_calls.proofs.Below.{PyObjectRef, BuiltIn, PyNumberBinaryOp, operator_row, operators, own_attrs, names_of, slot_names, filling_of, slot_fillings, place_of as slot_place, entry_among, PlainWorld, Value, kind_of_native, slot_in_place}
 use Rattle.py_node.specs.declared.built_in.BuiltIn.TheVariants as built_in
 use Rattle.py_node.specs.declared.entry.SlotId.TheVariants as slot
-use Rattle.py_node.specs.declared.task.PyNumberBinaryOp.{PyNumberBinaryOp}
 use Rattle.py_node.specs.declared.task.PyNumberBinaryOp.TheVariants as op
-use Rattle.py_node.specs.Operators.{operator_row, operators}
-use Rattle.py_node.specs.OwnAttrs.{own_attrs}
-use Rattle.py_node.specs.Slots.{names_of, slot_names, filling_of, slot_fillings}
-use Rattle.py_node.specs.Slots.{place_of as slot_place}
-use Rattle.class_model.specs.BuiltIn.{entry_among}
-use Rattle.plain_machine.specs.Plain.{PlainWorld}
-use Rattle.vm_calls.specs.AnswerKinds.Kinds.{Value, kind_of_native}
 use Rattle.vm_calls.proofs.AnswerKinds.Base.{So}
 use Rattle.vm_calls.proofs.AnswerKinds.Columns.{gives_in, Column, slot-at-gives}
-use Rattle.proto_ops.specs.Binary.{slot_in_place}
 
 add-row : (b : BuiltIn) → So (gives_in Value (entry_among b slot.Add (own_attrs b)))
 unfolding kind_of_native own_attrs names_of slot_names filling_of slot_fillings slot_place

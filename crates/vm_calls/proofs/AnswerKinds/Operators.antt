@@ -1,50 +1,17 @@
 -- The rows of operators answer of their kinds.
-use Rattle.std.proofs.Common.{◌&&◌, Bool, Err, List, None, Ok, Option, Some, cond, eqb, false, suc, true, zero, ℕ, ℤ, ◌∷◌, []}
-use Rattle.py_node.specs.declared.refs.PyObjectRef.{PyObjectRef}
-use Rattle.py_node.specs.declared.raised.Cause.{Cause}
-use Rattle.py_node.specs.declared.raised.Cause.TheVariants.{UnsupportedOperand, NotConcatenable, NotRepeatable, RepeatTooLong}
-use Rattle.py_node.specs.declared.entry.ListNative.TheVariants.{InplaceMultiply}
-use Rattle.py_node.specs.declared.entry.NativeEntry.{NativeEntry}
-use Rattle.py_node.specs.declared.entry.NativeEntry.TheVariants.{OfList}
-use Rattle.py_node.specs.declared.entry.SlotId.{SlotId}
+use Rattle.vm_calls.proofs.Below.{Bool, Err, List, None, Ok, Option, Some, cond, eqb, false, suc, true, zero, ℕ, ℤ, [], PyObjectRef, Cause, UnsupportedOperand, NotConcatenable, NotRepeatable, RepeatTooLong, InplaceMultiply, NativeEntry, OfList, SlotId, SlotEntry, Native, Wrapper, Unhashable, Known, PyNumberBinaryOp, PyNumberUnaryOp, is_same_entry, without_same, class_at as class_of, list_any as any_in, option_or, repeated as native_repeated, Kind, kind_of_native, kind_of_entry, kind_of_operator, kind_of, total, int_or_fault, sum_say, int_say, operator_say, in_turn, binop1_say, method_of, asked_of_method, enter_by, enter_say, unsupported, slot_in_place, in_place_by, in_place_rest, inplace_op1_say, unary_name, unary_by, unary_say, enter_power_by, enter_power_say, thirds, third_of, third_by, power_in_turn, power_say, power_in_place_by, power_in_place_rest, inplace_power_say, joined, is_sequence, concat_by, concat_rest, concat_say, inplace_concat_slot, inplace_concat_say, repeated_by, repeated_rest, mul_say, inplace_mul_say, repeat_by, repeat_rest, repeat_say, inplace_repeat_slot, inplace_repeat_say, on_count, sequence_for, with_times, list_repeated, native_repeat, Datum, AText, ATuple, AList, Bindings, PlainWorld, OperatorJob, DoAdd, DoBinOp1, DoEnter, DoBinary, DoInplaceOp1, DoInplace, DoConcat, DoInplaceAdd, DoInplaceConcat, DoMul, DoRepeat, DoInplaceMul, DoInplaceRepeat, DoNativeRepeat, DoEnterPower, DoPower, DoInplacePower, DoUnary, DoInt, PlainTask, ToOperator, AsValue, Ended, Chose, Told, Said, text_keys, datum_at, number_of, slot_at, candidates_at, next_node, special_at, the_int, the_str, the_tuple, the_list, Row, start, ask, end, value, pass, fault, not_implemented, or_else, fits_index, within_index, read_once, native_task, two_of, known_text, operator_row, names_of, slot, goes_first, natives_of}
+use Rattle.std.proofs.Common.{◌&&◌, ◌∷◌}
 use Rattle.py_node.specs.declared.entry.SlotId.TheVariants as slots
-use Rattle.py_node.specs.declared.entry.SlotEntry.{SlotEntry}
-use Rattle.py_node.specs.declared.entry.SlotEntry.TheVariants.{Native, Wrapper, Unhashable}
-use Rattle.py_node.specs.declared.known.Known.{Known}
-use Rattle.py_node.specs.declared.task.PyNumberBinaryOp.{PyNumberBinaryOp}
 use Rattle.py_node.specs.declared.task.PyNumberBinaryOp.TheVariants as op
-use Rattle.py_node.specs.declared.task.PyNumberUnaryOp.{PyNumberUnaryOp}
-use Rattle.py_node.specs.Natives.{is_same_entry}
-use Rattle.class_model.specs.Slot.{in_turn as either_turn, without_same}
-use Rattle.plain_machine.specs.World.{class_at as class_of}
-use Rattle.std.specs.List.{list_any as any_in}
-use Rattle.std.specs.Option.{option_or}
-use Rattle.row_kit.specs.Repeats.{repeated as native_repeated}
+use Rattle.class_model.specs.Slot.{in_turn as either_turn}
 use Rattle.vm_calls.specs.AnswerKinds.Kinds as kinds
-use Rattle.vm_calls.specs.AnswerKinds.Kinds.{Kind, kind_of_native, kind_of_entry, kind_of_operator, kind_of}
 use Rattle.vm_calls.proofs.AnswerKinds.Base.{So, Fits, within, Kinded, ended, Says, ends, asks, at_once, on_way, never, started, forked, asking, finished, passed, chosen, read_entries_once, or-else, native-asked}
 use Rattle.vm_calls.proofs.AnswerKinds.Said.{either}
 use Rattle.vm_calls.proofs.AnswerKinds.Columns.{gives_in, Column, slot-gives, slot-at-gives}
 use Rattle.vm_calls.proofs.AnswerKinds.Tables.{concat-column, inplace-concat-column}
 use Rattle.vm_calls.proofs.AnswerKinds.OperatorTables.{power-column, right-power-column, inplace-power-column, left-column, right-column, in-place-gives}
 use Rattle.vm_calls.proofs.AnswerKinds.Gives.{object-given}
-use Rattle.proto_ops.specs.Say.{total, int_or_fault, sum_say, int_say, operator_say}
-use Rattle.proto_ops.specs.Binary.{in_turn, binop1_say, method_of, asked_of_method, enter_by, enter_say, unsupported, slot_in_place, in_place_by, in_place_rest, inplace_op1_say, unary_name, unary_by, unary_say}
-use Rattle.proto_ops.specs.Powers.{enter_power_by, enter_power_say, thirds, third_of, third_by, power_in_turn, power_say, power_in_place_by, power_in_place_rest, inplace_power_say}
-use Rattle.proto_ops.specs.Sequences.{joined, is_sequence, concat_by, concat_rest, concat_say, inplace_concat_slot, inplace_concat_say, repeated_by, repeated_rest, repeated, mul_say, inplace_mul_say, repeat_by, repeat_rest, repeat_say, inplace_repeat_slot, inplace_repeat_say}
-use Rattle.row_kit.specs.Repeats.{on_count, sequence_for, with_times, list_repeated, native_repeat}
-use Rattle.plain_machine.specs.Plain.{Datum, AText, ATuple, AList, Bindings, PlainWorld, OperatorJob, DoAdd, DoBinOp1, DoEnter, DoBinary, DoInplaceOp1, DoInplace, DoConcat, DoInplaceAdd, DoInplaceConcat, DoMul, DoRepeat, DoInplaceMul, DoInplaceRepeat, DoNativeRepeat, DoEnterPower, DoPower, DoInplacePower, DoUnary, DoInt, PlainTask, ToOperator, AsValue, Ended, Chose, Told, Said}
-use Rattle.plain_machine.specs.World.{text_keys, datum_at, number_of, slot_at, candidates_at, next_node}
-use Rattle.plain_machine.specs.Objects.{special_at}
-use Rattle.plain_machine.specs.Known.{the_int, the_str, the_tuple, the_list}
-use Rattle.plain_machine.specs.Row.{Row, start, ask, end, value, pass, fault, not_implemented, or_else, fits_index, within_index, read_once}
-use Rattle.plain_machine.specs.Native.{native_task}
-use Rattle.plain_machine.specs.Args.{two_of}
-use Rattle.py_node.specs.Known.{known_text}
-use Rattle.py_node.specs.Operators.{operator_row}
-use Rattle.py_node.specs.Slots.{names_of}
-use Rattle.class_model.specs.Slot.{slot, goes_first}
-use Rattle.class_model.specs.BuiltIn.{natives_of}
+use Rattle.proto_ops.specs.Sequences.{repeated}
 
 -- the candidates are natives that answer with objects, or special methods
 

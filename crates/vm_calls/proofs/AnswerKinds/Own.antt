@@ -1,19 +1,8 @@
 -- What the natives of objects, classes and descriptors take.
-use Rattle.std.proofs.Common.{Bool, List, None, Option, Some, eqb, ℕ, ◌∷◌, []}
-use Rattle.py_node.specs.declared.refs.PyObjectRef.{PyObjectRef}
-use Rattle.py_node.specs.declared.raised.Cause.{Cause}
-use Rattle.py_node.specs.declared.raised.Cause.TheVariants.{SelfType}
-use Rattle.py_node.specs.declared.built_in.BuiltIn.{BuiltIn}
-use Rattle.vm_calls.specs.AnswerKinds.Kinds.{Kind}
+use Rattle.vm_calls.proofs.Below.{Bool, List, None, Option, Some, eqb, ℕ, [], PyObjectRef, Cause, SelfType, BuiltIn, Kind, there_or, with_own, with_class, with_lone_class, safe_for, with_heir, with_class_and, with_one_or_two, with_class_and_given, Datum, Bindings, PlainWorld, Told, Said, datum_at, class_number, nearest_built_in, with_one, with_two}
+use Rattle.std.proofs.Common.{◌∷◌}
 use Rattle.vm_calls.proofs.AnswerKinds.Base.{Says, ends}
 use Rattle.vm_calls.proofs.AnswerKinds.Said.{either, no-keywords, takes-one, takes-two}
-use Rattle.row_kit.specs.TakeClasses.{there_or, with_own, with_class, with_lone_class, safe_for, with_heir}
-use Rattle.proto_call.specs.ClassMake.TypeNatives.{with_class_and}
-use Rattle.proto_attr.specs.NativeObjects.Takes.{with_one_or_two, with_class_and_given}
-use Rattle.plain_machine.specs.Plain.{Datum, Bindings, PlainWorld, Told, Said}
-use Rattle.plain_machine.specs.World.{datum_at}
-use Rattle.plain_machine.specs.Objects.{class_number, nearest_built_in}
-use Rattle.plain_machine.specs.Takes.{with_one, with_two}
 use Rattle.py_node.specs.BuiltIns.{place_of}
 
 pub there-or : {A : Type 0} {q : Told → Kind → Bool} {k : Kind} (w : PlainWorld) (cause : Cause) (o : Option A) (go : A → Said) → ((x : A) → Says q k (go x)) → Says q k (there_or w cause o go)

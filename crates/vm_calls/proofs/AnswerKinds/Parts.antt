@@ -1,34 +1,20 @@
 -- The natives that make, show, hash, compare and repeat what has parts answer of their kinds.
-use Rattle.std.proofs.Common.{◌++◌, Bool, Err, List, None, Ok, Option, Result, Some, cond, eqb, false, inl, inr, length, not, pos, refl, set, true, zip, ℕ, ℤ, ◌∷◌, ◌≡◌, ◌⊎◌, []}
-use Rattle.py_node.specs.declared.refs.PyObjectRef.{PyObjectRef}
-use Rattle.py_node.specs.declared.raised.Cause.TheVariants.{SelfType}
-use Rattle.py_node.specs.declared.raised.Raised.{Raised as Fault}
+use Rattle.vm_calls.proofs.Below.{Bool, Err, List, None, Ok, Option, Result, Some, cond, eqb, false, inl, inr, length, not, pos, refl, set, true, zip, ℕ, ℤ, [], PyObjectRef, SelfType, Raised as Fault, NativeEntry, OfList, CompareNative, Or, items_at, Container as Shown, Turns, Repeated, in_length, object_made, on_count, sequence_for, list_repeated, with_own, there_or, property_in, parts_at, hash_task, repr_task, hashed_on, hash_row, tuple_hash, text_at, texts_at, container_text, text_ends, text_row, container_repr, wrapper_text, wrapper_ends, wrapper_by, wrapper_repr, ends_with, decided_or, turns_of, by_turns, items_compared, with_items, both_read, with_same, with_both, sequences_by, sequences_say, values_compared, dicts_equal, dict_compared, dicts_by, dicts_say, with_name as named_datum, or_false, abstract_of, getter_at, setter_at, or_not_abstract, property_abstract, name_known, kept_name, member_name, dotted, named_so, named_by, name_given, name_rest, member_qualname, Kind, kind_of, with_one_at_most, first, str_new_by, str_made, str_rest, str_new, tuple_new_by, tuple_rest, tuple_new, list_filled, list_init_by, list_rest, list_init, int_new, int_of_class, int_made_of, int_rest, int_new_say, bool_new, bool_new_say, entry_of, repeat_of, repeat_by_name, list_stood, repeat_stood, repeat_by_kind, as_said, argument, with_read, with_own_and, number, Datum, ANumber, AText, ATuple, AList, AMember, AProperty, Bindings, PlainWorld, DoGetAttr, DoBinary, DoIdEq, DoSeqLt, DoSeqGt, ToAttribute, ToOperator, ToCompare, AsValue, Ended, ReadObjects, Told, Said, Asks, Ends, datum_at, number_of, with_datum, the_int, the_str, Row, ask, end, value, none, elsewhere, is_attribute_error, on_value, on_truth, truth, noting, read_objects, with_one, known_text, Text}
+use Rattle.std.proofs.Common.{◌++◌, ◌∷◌, ◌≡◌, ◌⊎◌}
 use Rattle.py_node.specs.declared.built_in.BuiltIn.TheVariants as built_in
-use Rattle.py_node.specs.declared.entry.NativeEntry.{NativeEntry}
-use Rattle.py_node.specs.declared.entry.NativeEntry.TheVariants.{OfList}
-use Rattle.py_node.specs.declared.entry.CompareNative.{CompareNative}
 use Rattle.py_node.specs.declared.entry.CompareNative.TheVariants as compare
-use Rattle.py_node.specs.declared.task.PyNumberBinaryOp.TheVariants.{Or}
 use Rattle.py_node.specs.declared.known.Known.TheVariants as known
-use Rattle.row_kit.specs.TakeContainers.{is_of as is_container, items_at}
+use Rattle.row_kit.specs.TakeContainers.{is_of as is_container}
 use Rattle.row_kit.specs.declared.take_containers.Kind.{Kind as Container}
 use Rattle.row_kit.specs.declared.take_containers.Kind.TheVariants as kind
-use Rattle.native_containers.specs.declared.native_parts.take.Container.{Container as Shown}
 use Rattle.native_containers.specs.declared.native_parts.wrapped.Wrapper.{Wrapper}
 use Rattle.native_containers.specs.declared.native_compare.way.Way.{Way}
 use Rattle.native_containers.specs.declared.native_compare.way.Way.TheVariants as way
-use Rattle.native_containers.specs.declared.native_compare.way.Turns.{Turns}
 use Rattle.native_containers.specs.declared.native_compare.way.Turns.TheVariants as turn
-use Rattle.proto_ops.specs.declared.native_repeats.kind.Repeated.{Repeated}
-use Rattle.row_kit.specs.Say.{in_length, object_made}
-use Rattle.row_kit.specs.Repeats.{on_count, sequence_for, list_repeated}
-use Rattle.row_kit.specs.TakeClasses.{with_own, there_or}
-use Rattle.proto_attr.specs.NativeObjects.Takes.{property_in}
-use Rattle.native_containers.specs.NativeParts.Texts.{kind_of as shown_kind, parts_at, hash_task, repr_task, hashed_on, hash_row, tuple_hash, text_at, texts_at, container_text, text_ends, text_row, container_repr, wrapped_in, wrapper_text, wrapper_ends, wrapper_by, wrapper_repr}
-use Rattle.native_containers.specs.NativeCompare.Containers.{answered as way_answered, in_turn as pairs_in_turn, asked as way_asked, ends_with, decided_or, turns_of, by_turns, items_compared, with_items, both_read, with_same, with_both, sequences_by, sequences_say, values_compared, dicts_equal, dict_compared, dicts_by, dicts_say}
-use Rattle.proto_attr.specs.NativeDetails.Say.{with_name as named_datum, or_false, abstract_of, listed, getter_at, setter_at, or_not_abstract, joined, abstract_by, is_abstract, property_abstract, name_known, kept_name, member_name, dotted, named_so, named_by, name_given, name_rest, member_qualname}
+use Rattle.native_containers.specs.NativeParts.Texts.{kind_of as shown_kind, wrapped_in}
+use Rattle.native_containers.specs.NativeCompare.Containers.{answered as way_answered, in_turn as pairs_in_turn, asked as way_asked}
+use Rattle.proto_attr.specs.NativeDetails.Say.{listed, joined, abstract_by, is_abstract}
 use Rattle.vm_calls.specs.AnswerKinds.Kinds as kinds
-use Rattle.vm_calls.specs.AnswerKinds.Kinds.{Kind, kind_of}
 use Rattle.vm_calls.proofs.AnswerKinds.Base.{Fits, within, wider, Family, GoesOn, Kinded, ended, Says, ends, asks, at_once, never, stepped, goes-on, started, asking, finished, passed, one_of, read_objects_once, on-value, on-truth, on-maybe, either-fits}
 use Rattle.vm_calls.proofs.AnswerKinds.Said.{either, no-keywords, takes-one, takes-two}
 use Rattle.vm_calls.proofs.AnswerKinds.Gives.{object-given, text-given}
@@ -37,20 +23,7 @@ use Rattle.vm_calls.proofs.AnswerKinds.Entries.{on-objects, each-value, each-num
 use Rattle.vm_calls.proofs.AnswerKinds.Containers.{container-taken}
 use Rattle.vm_calls.proofs.AnswerKinds.Operators.{count-said, times-said, list-said, native-repeated}
 use Rattle.vm_calls.proofs.AnswerKinds.Sequences.{tested-row, one-taken}
-use Rattle.native_containers.specs.NativeParts.Makers.{with_one_at_most, first, str_new_by, str_made, str_rest, str_new, tuple_new_by, tuple_rest, tuple_new, list_filled, list_init_by, list_rest, list_init}
-use Rattle.native_containers.specs.NativeParts.Numbers.{int_new, int_of_class, int_made_of, int_rest, int_new_say, bool_new, bool_new_say}
-use Rattle.proto_ops.specs.NativeRepeats.Say.{entry_of, repeat_of, repeat_by_name, list_stood, repeat_stood, repeat_rest, repeat_by_kind}
-use Rattle.row_kit.specs.Asking.{as_said, argument, with_read}
-use Rattle.native_containers.specs.Take.{with_own_and}
-use Rattle.row_kit.specs.ProtoBase.Each.{number}
-use Rattle.plain_machine.specs.Plain.{Datum, ANumber, AText, ATuple, AList, AMember, AProperty, Bindings, PlainWorld, DoGetAttr, DoBinary, DoIdEq, DoSeqLt, DoSeqGt, ToAttribute, ToOperator, ToCompare, AsValue, Ended, ReadObjects, Told, Said, Asks, Ends}
-use Rattle.plain_machine.specs.World.{datum_at, number_of}
-use Rattle.plain_machine.specs.Objects.{with_datum}
-use Rattle.plain_machine.specs.Known.{the_int, the_str}
-use Rattle.plain_machine.specs.Row.{Row, ask, end, value, none, elsewhere, is_attribute_error, on_value, on_truth, truth, noting, read_objects}
-use Rattle.plain_machine.specs.Takes.{with_one}
-use Rattle.py_node.specs.Known.{known_text}
-use Rattle.py_node.specs.Tree.{Text}
+use Rattle.proto_ops.specs.NativeRepeats.Say.{repeat_rest}
 
 said-row : (k : Kind) (said : PlainWorld → Said) → ((w : PlainWorld) → Says never k (said w)) → Kinded k (λ w. as_said (said w))
 said-row k said s = finished k (λ w. as_said (said w)) s

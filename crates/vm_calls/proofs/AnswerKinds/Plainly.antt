@@ -1,40 +1,17 @@
 -- The natives that end at once answer of their kinds.
-use Rattle.std.proofs.Common.{◌++◌, ◌==◌, Bool, Err, List, None, Ok, Option, Result, Some, codes, eqb, false, length, not, true, ℕ, ℤ, ◌∷◌, []}
-use Rattle.py_node.specs.declared.refs.PyObjectRef.{PyObjectRef}
-use Rattle.py_node.specs.declared.raised.Raised.{Raised as Fault}
-use Rattle.py_node.specs.declared.entry.FixedNative.{FixedNative}
+use Rattle.vm_calls.proofs.Below.{Bool, Err, List, None, Ok, Option, Result, Some, codes, eqb, false, length, not, true, ℕ, ℤ, [], PyObjectRef, Raised as Fault, FixedNative, NumberNative, ArithmeticNative, BitNative, StrNative, CompareNative, OfNumber, OfStr, truth_text, truth_or, truth_by, bits_of, bits_by, bits_say, fixed_first, with_fixed, fixed_say, number_by, number_say, unless_third, with_powers, with_operands, pair_made, divided_by, arithmetic_by, arithmetic_say, is_zero, truth_of as truth_in, as_int, is_int, negated, absolute, inverted, difference, product, quotient, remainder, power, repr_text, stands_in, in_length, int_made, numbers_of, signed_decimal, str_to_ascii_uppercase, fixed_none, fixed_not_implemented, add_by, text_say, compare_text_say, with_own_text, with_lone_text, with_text_and, is_str, text_of as text_in, Kind, kind_of_native, ANumber, Bindings, PlainWorld, Said, datum_at, class_at, number_of, with_node, next_node, the_int, value, truth, with_one, with_two, Text}
+use Rattle.std.proofs.Common.{◌++◌, ◌==◌, ◌∷◌}
 use Rattle.py_node.specs.declared.entry.FixedNative.TheVariants as fixed
-use Rattle.py_node.specs.declared.entry.NumberNative.{NumberNative}
 use Rattle.py_node.specs.declared.entry.NumberNative.TheVariants as number
-use Rattle.py_node.specs.declared.entry.ArithmeticNative.{ArithmeticNative}
 use Rattle.py_node.specs.declared.entry.ArithmeticNative.TheVariants as arithmetic
-use Rattle.py_node.specs.declared.entry.BitNative.{BitNative}
-use Rattle.py_node.specs.declared.entry.StrNative.{StrNative}
 use Rattle.py_node.specs.declared.entry.StrNative.TheVariants as str
-use Rattle.py_node.specs.declared.entry.CompareNative.{CompareNative}
 use Rattle.py_node.specs.declared.entry.CompareNative.TheVariants as compare
-use Rattle.py_node.specs.declared.entry.NativeEntry.TheVariants.{OfNumber, OfStr}
-use Rattle.proto_ops.specs.NativeNumbers.Say.{truth_text, compared as numbers_compared, compare_say as numbers_say, truth_or, truth_by, bits_of, bits_by, bits_say, fixed_first, with_fixed, fixed_say, number_by, number_say, unless_third, with_powers, with_operands, pair_made, divided_by, arithmetic_by, arithmetic_say}
-use Rattle.row_kit.specs.IntValues.{is_zero, truth_of as truth_in, as_int, is_int}
-use Rattle.proto_ops.specs.NativeNumbers.Numbers.{negated, absolute, inverted, difference, product, quotient, remainder, power}
-use Rattle.native_containers.specs.NativeTexts.Texts.{repr_text, stands_in}
-use Rattle.row_kit.specs.Say.{in_length, int_made, numbers_of}
-use Rattle.std.specs.Fmt.{signed_decimal}
-use Rattle.std.specs.Str.{str_to_ascii_uppercase}
-use Rattle.py_node.specs.BuiltIns.{fixed_none, fixed_not_implemented}
-use Rattle.native_containers.specs.NativeTexts.Say.{compared as texts_compared, contains_by as text_contains, add_by, text_say, compare_text_say, with_own_text, with_lone_text, with_text_and, is_str}
-use Rattle.row_kit.specs.TakeTexts.{text_of as text_in}
+use Rattle.proto_ops.specs.NativeNumbers.Say.{compared as numbers_compared, compare_say as numbers_say}
+use Rattle.native_containers.specs.NativeTexts.Say.{compared as texts_compared, contains_by as text_contains}
 use Rattle.vm_calls.specs.AnswerKinds.Kinds as kinds
-use Rattle.vm_calls.specs.AnswerKinds.Kinds.{Kind, kind_of_native}
 use Rattle.vm_calls.proofs.AnswerKinds.Base.{Fits, Says, ends, never}
 use Rattle.vm_calls.proofs.AnswerKinds.Said.{either, takes-one, takes-two, takes-three, takes-text}
 use Rattle.vm_calls.proofs.AnswerKinds.Gives.{int-given, text-given, iterator-given, takes-lone-number, takes-number-and, numbers-held, takes-numbers}
-use Rattle.plain_machine.specs.Plain.{ANumber, Bindings, PlainWorld, Said}
-use Rattle.plain_machine.specs.World.{datum_at, class_at, number_of, with_node, next_node}
-use Rattle.plain_machine.specs.Known.{the_int}
-use Rattle.plain_machine.specs.Row.{value, truth}
-use Rattle.plain_machine.specs.Takes.{with_one, with_two}
-use Rattle.py_node.specs.Tree.{Text}
 
 -- numbers
 

@@ -1,9 +1,6 @@
 -- All rows together.
-use Rattle.std.proofs.Common.{◌≡◌, ℤ, Option, Some, None, sym, subst}
-use Rattle.py_node.specs.declared.refs.PyObjectRef.{PyObjectRef}
-use Rattle.plain_machine.specs.Plain.{PlainWorld, PlainTask, ProtocolJob, DoIsTrue, DoIndex, DoWhole, DoLength, DoHint, DoGetItem, DoSetItem, DoDelItem, DoGetSlice, DoSetSlice, DoDelSlice, DoGetIter, DoNext, DoCollect, DoContains, DoCount, DoFind, DoKeys, DoValues, DoItems, ToEval, ToAttribute, ToDescriptor, ToCall, ToClass, ToOperator, ToCompare, ToProtocol, ToObject, ToNative, Told, Saying}
-use Rattle.vm_calls.specs.AnswerKinds.Kinds.{Kind, Value, kind_of, kind_of_attribute, kind_of_descriptor, kind_of_call, kind_of_operator, kind_of_compare, kind_of_protocol, kind_of_object, kind_of_native, is_of}
-use Rattle.vm_calls.specs.AnswerKinds.Rows.{protocol_row, GoesByRows, AnswersAreOfTheirKinds}
+use Rattle.vm_calls.proofs.Below.{ℤ, Option, Some, None, sym, subst, PyObjectRef, PlainWorld, PlainTask, ProtocolJob, DoIsTrue, DoIndex, DoWhole, DoLength, DoHint, DoGetItem, DoSetItem, DoDelItem, DoGetSlice, DoSetSlice, DoDelSlice, DoGetIter, DoNext, DoCollect, DoContains, DoCount, DoFind, DoKeys, DoValues, DoItems, ToEval, ToAttribute, ToDescriptor, ToCall, ToClass, ToOperator, ToCompare, ToProtocol, ToObject, ToNative, Told, Saying, Kind, Value, kind_of, kind_of_attribute, kind_of_descriptor, kind_of_call, kind_of_operator, kind_of_compare, kind_of_protocol, kind_of_object, kind_of_native, is_of, protocol_row, GoesByRows, AnswersAreOfTheirKinds}
+use Rattle.std.proofs.Common.{◌≡◌}
 use Rattle.vm_calls.proofs.AnswerKinds.Base.{Family, Kinded, true-so}
 use Rattle.vm_calls.proofs.AnswerKinds.Law.{of-its-kind}
 use Rattle.vm_calls.proofs.AnswerKinds.Expressions.{expressions}

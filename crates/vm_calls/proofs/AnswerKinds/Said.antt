@@ -1,11 +1,6 @@
 -- What is said of what natives take, and of branches, so that an end is of a kind.
-use Rattle.std.proofs.Common.{Bool, true, false, cond, List, [], ◌∷◌, Option, Some}
-use Rattle.py_node.specs.declared.refs.PyObjectRef.{PyObjectRef}
-use Rattle.py_node.specs.Tree.{Text}
-use Rattle.plain_machine.specs.Plain.{Datum, AText, PlainWorld, Bindings, Told, Said}
-use Rattle.plain_machine.specs.Takes.{without_keywords, with_one, with_two, with_three, text_in, with_text}
-use Rattle.plain_machine.specs.World.{datum_at}
-use Rattle.vm_calls.specs.AnswerKinds.Kinds.{Kind}
+use Rattle.vm_calls.proofs.Below.{Bool, true, false, cond, List, [], Option, Some, PyObjectRef, Text, Datum, AText, PlainWorld, Bindings, Told, Said, without_keywords, with_one, with_two, with_three, text_in, with_text, datum_at, Kind}
+use Rattle.std.proofs.Common.{◌∷◌}
 use Rattle.vm_calls.proofs.AnswerKinds.Base.{Says, ends}
 
 pub either : {q : Told → Kind → Bool} {k : Kind} {x y : Said} (b : Bool) → Says q k x → Says q k y → Says q k (cond b x y)

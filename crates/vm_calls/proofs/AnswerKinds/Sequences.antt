@@ -1,39 +1,19 @@
 -- The natives that read and set items, go over them, compare, repeat, make or show what has parts answer of their kinds.
-use Rattle.std.proofs.Common.{◌++◌, ◌||◌, Bool, Err, List, None, Ok, Option, Some, cond, drop, encode_utf8_all, false, inl, inr, length, refl, subst, suc, sym, take, true, ℕ, ◌∷◌, ◌≡◌, ◌⊎◌, []}
-use Rattle.py_node.specs.declared.refs.PyObjectRef.{PyObjectRef}
-use Rattle.py_node.specs.declared.raised.Cause.TheVariants.{IterEnd, SelfType}
-use Rattle.py_node.specs.declared.payload.PySlice.{PySlice}
-use Rattle.py_node.specs.declared.payload.SequenceIterator.{SequenceIterator}
-use Rattle.row_kit.specs.TakeContainers.{is_of as is_container, items_at}
+use Rattle.vm_calls.proofs.Below.{Bool, Err, List, None, Ok, Option, Some, cond, drop, encode_utf8_all, false, inl, inr, length, refl, subst, suc, sym, take, true, ℕ, [], PyObjectRef, IterEnd, SelfType, PySlice, SequenceIterator, items_at, answered as when_answered, at_place, stood, as_stood, is_number, item_ends, item_asked, item_got, get_item, tuple_get_item, list_get_item, chars_at, char_asked, character_at, character_made, char_rest, str_get_item, set_asked, set_rest, set_item, list_set_item, del_asked, del_rest, del_item, list_del_item, is_among, look_for, contains, list_extended, extend_rest, extend, list_extend, slice_at, part, place_at, put_part, iterator_in, found_in, next_in, next_from, is_end, next_item, iterator_next, chars, slice_get, slice_set, with_text_and, with_own_text, Kind, kind_of, as_said, argument, tested_first, taking_one, taking_two, taking_three, with_lone, with_own_and, with_own_and_two, tuple_made, list_made, list_changed, is_plain, ATuple, AList, Bindings, PlainWorld, DoIdEq, DoIndex, DoCollect, PlainTask, ToCompare, ToProtocol, AsValue, AsObjects, Ended, ReadObjects, Told, Said, Asks, Ends, datum_at, the_tuple, the_list, Row, value, fault, truth, with_two, Text}
+use Rattle.std.proofs.Common.{◌++◌, ◌||◌, ◌∷◌, ◌≡◌, ◌⊎◌}
+use Rattle.row_kit.specs.TakeContainers.{is_of as is_container}
 use Rattle.row_kit.specs.declared.take_containers.Kind.{Kind as Container}
 use Rattle.row_kit.specs.declared.take_containers.Kind.TheVariants as kind
 use Rattle.native_containers.specs.declared.native_items.next.Found.{Found}
 use Rattle.native_containers.specs.declared.native_items.next.Found.TheVariants as seen
-use Rattle.native_containers.specs.NativeItems.Items.{placed as at_index, answered as when_answered, at_place, stood, as_stood, is_number, item_ends, item_asked, item_got, get_item, tuple_get_item, list_get_item, chars_at, char_asked, character_at, character_made, char_rest, str_get_item, set_asked, part_set, set_rest, set_item, list_set_item, del_asked, del_rest, del_item, list_del_item, is_among, look_for, contains, list_extended, extend_rest, extend, list_extend}
-use Rattle.native_containers.specs.NativeItems.Places.{slice_at, part, place_at, put_part}
-use Rattle.native_containers.specs.NativeItems.Iterators.{iterator_in, found_in, next_in, next_from, next_by, is_end, next_rest, next_item, iterator_next}
-use Rattle.std.specs.Str.{chars}
-use Rattle.std.specs.Prelude.{slice_get, slice_set}
-use Rattle.native_containers.specs.NativeTexts.Say.{with_text_and, with_own_text}
+use Rattle.native_containers.specs.NativeItems.Items.{placed as at_index, part_set}
+use Rattle.native_containers.specs.NativeItems.Iterators.{next_by, next_rest}
 use Rattle.vm_calls.specs.AnswerKinds.Kinds as kinds
-use Rattle.vm_calls.specs.AnswerKinds.Kinds.{Kind, kind_of}
 use Rattle.vm_calls.proofs.AnswerKinds.Base.{So, Fits, within, wider, Family, GoesOn, Kinded, ended, Says, ends, asks, at_once, never, stepped, goes-on, started, finished, read_objects_once, on-value, either-fits}
 use Rattle.vm_calls.proofs.AnswerKinds.Said.{either, takes-two, takes-text}
 use Rattle.vm_calls.proofs.AnswerKinds.Gives.{object-given, text-given}
 use Rattle.vm_calls.proofs.AnswerKinds.Entries.{on-objects, any-row}
 use Rattle.vm_calls.proofs.AnswerKinds.Containers.{unless-long, list-changed}
-use Rattle.row_kit.specs.Asking.{as_said, argument, tested_first}
-use Rattle.native_containers.specs.Asking.{taking_one, taking_two, taking_three}
-use Rattle.native_containers.specs.Take.{with_lone, with_own_and, with_own_and_two}
-use Rattle.row_kit.specs.GiveContainers.{tuple_made, list_made}
-use Rattle.native_containers.specs.Say.{list_changed}
-use Rattle.row_kit.specs.ProtoBase.Entered.{is_plain}
-use Rattle.plain_machine.specs.Plain.{ATuple, AList, Bindings, PlainWorld, DoIdEq, DoIndex, DoCollect, PlainTask, ToCompare, ToProtocol, AsValue, AsObjects, Ended, ReadObjects, Told, Said, Asks, Ends}
-use Rattle.plain_machine.specs.World.{datum_at}
-use Rattle.plain_machine.specs.Known.{the_tuple, the_list}
-use Rattle.plain_machine.specs.Row.{Row, value, fault, truth}
-use Rattle.plain_machine.specs.Takes.{with_two}
-use Rattle.py_node.specs.Tree.{Text}
 
 -- a row that says this, whatever it was told
 said-row : (k : Kind) (said : PlainWorld → Said) → ((w : PlainWorld) → Says never k (said w)) → Kinded k (λ w. as_said (said w))

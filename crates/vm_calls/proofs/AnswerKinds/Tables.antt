@@ -1,12 +1,6 @@
 -- What the natives of the built-in classes answer that stand in a slot.
-use Rattle.py_node.specs.declared.built_in.BuiltIn.{BuiltIn}
+use Rattle.vm_calls.proofs.Below.{BuiltIn, Init, New, Richcompare, Int, Iter, Iternext, SeqContains, SeqItem, SeqLength, MapLength, MapSubscript, Repr, Concat, InplaceConcat, own_attrs, names_of, slot_names, filling_of, slot_fillings, place_of as slot_place, entry_among, Value, TruthValue, Number, kind_of_native}
 use Rattle.py_node.specs.declared.built_in.BuiltIn.TheVariants as built_in
-use Rattle.py_node.specs.declared.entry.SlotId.TheVariants.{Init, New, Richcompare, Int, Iter, Iternext, SeqContains, SeqItem, SeqLength, MapLength, MapSubscript, Repr, Concat, InplaceConcat}
-use Rattle.py_node.specs.OwnAttrs.{own_attrs}
-use Rattle.py_node.specs.Slots.{names_of, slot_names, filling_of, slot_fillings}
-use Rattle.py_node.specs.Slots.{place_of as slot_place}
-use Rattle.class_model.specs.BuiltIn.{entry_among}
-use Rattle.vm_calls.specs.AnswerKinds.Kinds.{Value, TruthValue, Number, kind_of_native}
 use Rattle.vm_calls.proofs.AnswerKinds.Base.{So}
 use Rattle.vm_calls.proofs.AnswerKinds.Columns.{gives_in, Column}
 

@@ -1,30 +1,11 @@
 -- What reading an attribute comes to that is a method, and what the call of a method asks.
-use Rattle.std.proofs.Common.{◌≡◌, ℕ, suc, ◌<◌, true, cond, nat_lt, length, List, [], ◌∷◌, ◌++◌, Option, Some, inl, inr, refl, sym, ap, ◌∙◌, arith}
+use Rattle.vm_calls.proofs.Below.{ℕ, suc, true, cond, nat_lt, length, List, [], Option, Some, inl, inr, refl, sym, ap, ◌∙◌, arith, nat_tests, PyObjectRef, DepthLimit, DescrGet, Call, Native, NativeEntry, OfCallable, Text, Datum, AMethod, ABuiltinMethod, AMethodDescriptor, PlainWorld, PlainTask, Bindings, DoCall, DoGetAttr, DoGeneric, DoDescrGet, ToAttribute, ToDescriptor, Ended, Answered, Chose, Told, Asks, Ends, Saying, class_at, datum_at, slot_at, with_node, next_node, class_number, for_classes, for_objects, is_for_objects, type_object, the_method, fault, value, Over, Outcome, Out, carry, step, reach, closing, reach-is, attribute_say, get_by, class-last, descriptor_say, descr_get_by, function_get, native_get, object_get, bound_native, class_get, static_get, class_of_option, call_native, call_job_say, call_by, asked_of_native, IsUsual, method_class, method_made, ReadIsAMethod, TargetIsFirst, MethodAsksIt, NativeIsAsked}
+use Rattle.std.proofs.Common.{◌≡◌, ◌<◌, ◌∷◌, ◌++◌}
 use Rattle.std.specs.Prelude.{is_some}
-use Rattle.std.proofs.lemmas.Bool.Decides.{nat_tests}
-use Rattle.py_node.specs.declared.refs.PyObjectRef.{PyObjectRef}
-use Rattle.py_node.specs.declared.raised.Cause.TheVariants.{DepthLimit}
 use Rattle.py_node.specs.declared.built_in.BuiltIn.TheVariants as built_in
-use Rattle.py_node.specs.declared.entry.SlotId.TheVariants.{DescrGet, Call}
-use Rattle.py_node.specs.declared.entry.SlotEntry.TheVariants.{Native}
-use Rattle.py_node.specs.declared.entry.NativeEntry.{NativeEntry}
-use Rattle.py_node.specs.declared.entry.NativeEntry.TheVariants.{OfCallable}
 use Rattle.py_node.specs.declared.entry.CallableNative.TheVariants as callable
 use Rattle.py_node.specs.BuiltIns.{place_of}
-use Rattle.py_node.specs.Tree.{Text}
-use Rattle.plain_machine.specs.Plain.{Datum, AMethod, ABuiltinMethod, AMethodDescriptor, PlainWorld, PlainTask, Bindings, DoCall, DoGetAttr, DoGeneric, DoDescrGet, ToAttribute, ToDescriptor, Ended, Answered, Chose, Told, Asks, Ends, Saying}
-use Rattle.plain_machine.specs.World.{class_at, datum_at, slot_at, with_node, next_node}
-use Rattle.plain_machine.specs.Objects.{class_number, for_classes, for_objects, is_for_objects, type_object}
-use Rattle.plain_machine.specs.Known.{the_method}
-use Rattle.plain_machine.specs.Row.{fault, value}
-use Rattle.plain_machine.specs.Answer.{Over, Outcome, Out, carry, step, reach, closing}
-use Rattle.plain_machine.proofs.Follow.{reach-is}
-use Rattle.proto_attr.specs.Say.{attribute_say, get_by}
-use Rattle.proto_attr.proofs.Winning.{class-last}
-use Rattle.proto_attr.specs.ProtoDescr.Say.{descriptor_say, descr_get_by, function_get, native_get, object_get, bound_native, class_get, static_get, class_of_option}
-use Rattle.row_kit.specs.Called.{call_native}
-use Rattle.proto_call.specs.Say.{call_job_say, call_by, asked_of_native}
-use Rattle.vm_calls.specs.AttributeLaws.Methods.{GoesByRows, IsUsual, method_class, method_made, ReadIsAMethod, TargetIsFirst, MethodAsksIt, NativeIsAsked}
+use Rattle.vm_calls.specs.AttributeLaws.Methods.{GoesByRows}
 use Rattle.vm_calls.proofs.AttributeLaws.Loading.{Loaded, loaded, has-class}
 use Rattle.vm_calls.proofs.AttributeLaws.Fast.{fast-kind, known-kind, function-gets, native-gets, native-calls, method-calls, bound-calls, of-function, of-native, type-known, not-none}
 

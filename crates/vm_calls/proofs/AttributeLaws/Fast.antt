@@ -1,35 +1,11 @@
 -- What the class of a fast method has, and what such a method holds.
-use Rattle.std.proofs.Common.{◌≡◌, ℕ, Bool, true, false, cond, not, ◌&&◌, eqb, nat_lt, List, [], ◌∷◌, Option, Some, None, ◌⊎◌, inl, inr, refl, sym, ap, ◌∙◌, subst}
-use Rattle.std.specs.Prelude.{option_map, option_and_then, slice_get}
-use Rattle.std.proofs.lemmas.Bool.{false≢true, and_parts}
-use Rattle.std.proofs.lemmas.Bool.Decides.{eqb_tells}
-use Rattle.py_node.specs.declared.refs.PyObjectRef.{PyObjectRef}
-use Rattle.py_node.specs.declared.built_in.BuiltIn.{BuiltIn}
+use Rattle.vm_calls.proofs.Below.{ℕ, Bool, true, false, cond, not, eqb, nat_lt, List, [], Option, Some, None, inl, inr, refl, sym, ap, ◌∙◌, subst, option_map, option_and_then, slice_get, false≢true, and_parts, eqb_tells, PyObjectRef, BuiltIn, DescrGet, Call, Native, Nearest, NativeEntry, OfCallable, flags_of, all_built_ins, fixed_none, heap_type, method_descriptor, own_attrs, sort_of, slot_sorts, names_of, slot_names, filling_of, slot_fillings, place_of as slot_place, Text, BeginsWith, Class, has_flag, lin, natives_of, built_ins, first_with, lin-begins, Datum, AClass, AMethod, AMethodDescriptor, PlainWorld, ref, class_at, datum_at, slot_at, class_has_flag, is_fast, is_for_objects, object_for, type_object, nearest_built_in, the_none_type, the_method, the_builtin_method, IsSound, home, holds_as, held_by, is_object_none, IsUsual, IsBuiltIn, IsKnown, IsUnmarked, method_class, method_made}
+use Rattle.std.proofs.Common.{◌≡◌, ◌&&◌, ◌∷◌, ◌⊎◌}
 use Rattle.py_node.specs.declared.built_in.BuiltIn.TheVariants as built_in
-use Rattle.py_node.specs.declared.entry.SlotId.TheVariants.{DescrGet, Call}
-use Rattle.py_node.specs.declared.entry.SlotEntry.TheVariants.{Native}
-use Rattle.py_node.specs.declared.slots.Sort.TheVariants.{Nearest}
-use Rattle.py_node.specs.declared.entry.NativeEntry.{NativeEntry}
-use Rattle.py_node.specs.declared.entry.NativeEntry.TheVariants.{OfCallable}
 use Rattle.py_node.specs.declared.entry.CallableNative.TheVariants as callable
-use Rattle.py_node.specs.BuiltIns.{place_of, flags_of, all_built_ins, fixed_none, heap_type, method_descriptor}
-use Rattle.py_node.specs.OwnAttrs.{own_attrs}
-use Rattle.py_node.specs.Slots.{sort_of, slot_sorts, names_of, slot_names, filling_of, slot_fillings}
-use Rattle.py_node.specs.Slots.{place_of as slot_place}
-use Rattle.py_node.specs.Tree.{Text}
-use Rattle.class_model.specs.Order.{BeginsWith}
-use Rattle.class_model.specs.Class.{Class, class_at as class_numbered, has_flag, lin}
-use Rattle.class_model.specs.BuiltIn.{natives_of}
-use Rattle.class_model.specs.Layout.{built_ins}
-use Rattle.class_model.specs.Slot.{first_with}
-use Rattle.class_model.proofs.Rule.{lin-begins}
-use Rattle.plain_machine.specs.Plain.{Datum, AClass, AMethod, AMethodDescriptor, PlainWorld}
-use Rattle.plain_machine.specs.World.{ref, class_at, datum_at, slot_at}
-use Rattle.plain_machine.specs.Objects.{class_has_flag, or_false, is_fast, is_for_objects, object_for, type_object, nearest_built_in}
-use Rattle.plain_machine.specs.Known.{the_none_type, the_method, the_builtin_method}
-use Rattle.plain_machine.specs.Sound.{IsSound, home, holds_as, held_by}
-use Rattle.proto_attr.specs.ProtoDescr.Say.{is_object_none}
-use Rattle.vm_calls.specs.AttributeLaws.Methods.{IsUsual, IsBuiltIn, IsKnown, IsUnmarked, method_class, method_made}
+use Rattle.py_node.specs.BuiltIns.{place_of}
+use Rattle.class_model.specs.Class.{class_at as class_numbered}
+use Rattle.plain_machine.specs.Objects.{or_false}
 use Rattle.vm_calls.proofs.AttributeLaws.Standing.{with_flag, node-of, class-there, some-of, own-slot, marks-methods}
 
 -- what the classes of methods have in the slots that bind and call

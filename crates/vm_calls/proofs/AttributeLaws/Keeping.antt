@@ -1,16 +1,7 @@
 -- Whether objects have a dict, after their class or its bases are changed.
-use Rattle.std.proofs.Common.{◌≡◌, ℕ, true, List, None, refl, sym, ◌∙◌}
+use Rattle.vm_calls.proofs.Below.{ℕ, true, List, None, refl, sym, ◌∙◌, with_bases, Class, Classes, is_class, gives_dict, AreSound, has-gives, has_dict-rebased, at-changed, refused_class, refused_rebase, AreThere, sound-passed, same-dict}
+use Rattle.std.proofs.Common.{◌≡◌}
 use Rattle.std.specs.Prelude.{is_some}
-use Rattle.class_model.specs.Change.{with_bases}
-use Rattle.class_model.specs.Class.{Class, Classes, is_class}
-use Rattle.class_model.specs.Dict.{gives_dict}
-use Rattle.class_model.specs.Sound.{AreSound}
-use Rattle.class_model.proofs.Dict.{has-gives, has_dict-rebased}
-use Rattle.class_model.proofs.Numbers.{at-changed}
-use Rattle.class_table.specs.Rebase.{refused_class, refused_rebase}
-use Rattle.class_table.specs.Refused.{AreThere}
-use Rattle.class_table.proofs.Passed.{sound-passed}
-use Rattle.class_world.proofs.Reclassed.{same-dict}
 
 module _ {K : Type 0} (t : Classes K) (ok : AreSound t) where
   pub bases-keep : (c : ℕ) (bs : List ℕ) (d : ℕ) → is_class t c ≡ true → AreThere t bs → refused_rebase t c bs ≡ None → is_class t d ≡ true → gives_dict (with_bases t c bs) d ≡ gives_dict t d

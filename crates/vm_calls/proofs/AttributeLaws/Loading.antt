@@ -1,24 +1,8 @@
 -- What a loaded method says of the row of the attribute.
-use Rattle.std.proofs.Common.{◌≡◌, ℕ, Bool, true, false, cond, [], Option, Some, None, Ok, refl, sym, ap, ◌∙◌, subst}
-use Rattle.std.specs.Prelude.{option_and_then}
-use Rattle.std.proofs.lemmas.Bool.{false≢true}
-use Rattle.py_node.specs.declared.refs.PyObjectRef.{PyObjectRef}
-use Rattle.py_node.specs.declared.entry.SlotId.{SlotId}
-use Rattle.py_node.specs.declared.entry.SlotId.TheVariants.{Getattro}
-use Rattle.py_node.specs.declared.entry.SlotEntry.{SlotEntry}
-use Rattle.py_node.specs.declared.entry.SlotEntry.TheVariants.{Native}
-use Rattle.py_node.specs.declared.entry.NativeEntry.TheVariants.{OfObject}
+use Rattle.vm_calls.proofs.Below.{ℕ, Bool, true, false, cond, [], Option, Some, None, Ok, refl, sym, ap, ◌∙◌, subst, option_and_then, false≢true, PyObjectRef, SlotId, Getattro, SlotEntry, Native, OfObject, Text, Found, Descriptor, Missing, PlainWorld, Said, Asks, Ends, DoLoadMethod, AsFunction, slot, natives_of, class_at, slot_at, text_keys, special_at, is_fast, own_value, attribute_say, find, load, load_by, load_fast, load_found}
+use Rattle.std.proofs.Common.{◌≡◌}
 use Rattle.py_node.specs.declared.entry.ObjectNative.TheVariants as object
-use Rattle.py_node.specs.Tree.{Text}
-use Rattle.proto_attr.specs.declared.find.Found.{Found}
-use Rattle.proto_attr.specs.declared.find.Found.TheVariants.{Descriptor, Value, Missing}
-use Rattle.plain_machine.specs.Plain.{PlainWorld, Said, Asks, Ends, DoLoadMethod, AsFunction}
-use Rattle.class_model.specs.Slot.{slot}
-use Rattle.class_model.specs.BuiltIn.{natives_of}
-use Rattle.plain_machine.specs.World.{class_at, slot_at, text_keys}
-use Rattle.plain_machine.specs.Objects.{special_at, is_fast}
-use Rattle.plain_machine.specs.Dicts.{own_value}
-use Rattle.proto_attr.specs.Say.{attribute_say, find, load, load_by, load_fast, load_found}
+use Rattle.proto_attr.specs.declared.find.Found.TheVariants.{Value}
 
 -- what is so where a method is loaded as a function with a target
 pub record Loaded (w u : PlainWorld) (o p a : PyObjectRef) (x : Text) : Type 0 where

@@ -1,26 +1,10 @@
 -- What the built-in classes have in their slots, and what their objects hold.
-use Rattle.std.proofs.Common.{◌≡◌, ℕ, Bool, true, false, List, [], ◌∷◌, Option, Some, None, ◌⊎◌, inl, inr, refl, ap, ◌∙◌, subst}
-use Rattle.std.specs.Prelude.{is_some, option_map, option_and_then, ◌==◌}
-use Rattle.std.specs.Int.RustNames.{bit_and}
-use Rattle.std.proofs.lemmas.Bool.{false≢true}
-use Rattle.py_node.specs.declared.refs.PyObjectRef.{PyObjectRef}
-use Rattle.py_node.specs.declared.built_in.BuiltIn.{BuiltIn}
+use Rattle.vm_calls.proofs.Below.{ℕ, Bool, true, false, List, [], Option, Some, None, inl, inr, refl, ap, ◌∙◌, subst, option_map, option_and_then, bit_and, false≢true, PyObjectRef, BuiltIn, SlotId, SlotEntry, Nearest, flags_of, built_in_flags, heap_type, method_descriptor, sort_of, Text, BeginsWith, Class, is_class, lin, first_along, slot, read_along, entry, is_heap_at, natives_of, lin-begins, Node, PlainWorld, class_at, node_at, slot_at, text_keys, IsSound, IsUsual}
+use Rattle.std.proofs.Common.{◌≡◌, ◌∷◌, ◌⊎◌}
+use Rattle.std.specs.Prelude.{is_some, ◌==◌}
 use Rattle.py_node.specs.declared.built_in.BuiltIn.TheVariants as built_in
-use Rattle.py_node.specs.declared.entry.SlotId.{SlotId}
-use Rattle.py_node.specs.declared.entry.SlotEntry.{SlotEntry}
-use Rattle.py_node.specs.declared.slots.Sort.TheVariants.{Nearest}
-use Rattle.py_node.specs.BuiltIns.{place_of, flags_of, built_in_flags, heap_type, method_descriptor}
-use Rattle.py_node.specs.Slots.{sort_of}
-use Rattle.py_node.specs.Tree.{Text}
-use Rattle.class_model.specs.Order.{BeginsWith}
-use Rattle.class_model.specs.Class.{Class, class_at as class_numbered, is_class, lin, or_else, first_along}
-use Rattle.class_model.specs.Slot.{slot, read_along, entry, is_heap_at}
-use Rattle.class_model.specs.BuiltIn.{natives_of}
-use Rattle.class_model.proofs.Rule.{lin-begins}
-use Rattle.plain_machine.specs.Plain.{Node, PlainWorld}
-use Rattle.plain_machine.specs.World.{class_at, node_at, slot_at, text_keys}
-use Rattle.plain_machine.specs.Sound.{IsSound}
-use Rattle.vm_calls.specs.AttributeLaws.Methods.{IsUsual}
+use Rattle.py_node.specs.BuiltIns.{place_of}
+use Rattle.class_model.specs.Class.{class_at as class_numbered, or_else}
 
 abbrev pub with_flag : ℕ → ℕ → Bool
 with_flag flag flags = bit_and flags flag == flag

@@ -1,18 +1,7 @@
 -- A table whose fields are what is read in the slots of a kind has just that in each slot.
-use Rattle.std.proofs.Common.{◌≡◌, Option, refl, sym}
-use Rattle.py_node.specs.declared.refs.PyObjectRef.{PyObjectRef}
-use Rattle.py_node.specs.declared.entry.SlotId.{SlotId}
+use Rattle.vm_calls.proofs.Below.{Option, refl, sym, PyObjectRef, SlotId, SlotEntry, sort_of, slot_sorts, place_of, PyNumberSlots, PySequenceMethods, PyMappingMethods, number_entry, sequence_entry, mapping_entry, PlainWorld, slot_at, only, is_of_sequences, is_of_mappings, is_of_numbers, HasSequenceSlots, HasMappingSlots}
+use Rattle.std.proofs.Common.{◌≡◌}
 use Rattle.py_node.specs.declared.entry.SlotId.TheVariants as slot
-use Rattle.py_node.specs.declared.entry.SlotEntry.{SlotEntry}
-use Rattle.py_node.specs.Slots.{sort_of, slot_sorts, place_of}
-use Rattle.vm_calls.specs.declared.slot_tables.number.PyNumberSlots.{PyNumberSlots}
-use Rattle.vm_calls.specs.declared.slot_tables.type_slots.PySequenceMethods.{PySequenceMethods}
-use Rattle.vm_calls.specs.declared.slot_tables.type_slots.PyMappingMethods.{PyMappingMethods}
-use Rattle.vm_calls.specs.SlotTables.Numbers.{number_entry}
-use Rattle.vm_calls.specs.SlotTables.Tables.{sequence_entry, mapping_entry}
-use Rattle.plain_machine.specs.Plain.{PlainWorld}
-use Rattle.plain_machine.specs.World.{slot_at}
-use Rattle.vm_calls.specs.OfProtocols.Views.{only, is_of_sequences, is_of_mappings, is_of_numbers, HasSequenceSlots, HasMappingSlots}
 
 pub sequences_read : (read : SlotId → Option SlotEntry) (m : PySequenceMethods) → read slot.SeqLength ≡ m.length → read slot.SeqItem ≡ m.item → read slot.SeqAssItem ≡ m.ass_item → read slot.SeqContains ≡ m.contains → read slot.Concat ≡ m.concat → read slot.Repeat ≡ m.repeat → read slot.InplaceConcat ≡ m.inplace_concat → read slot.InplaceRepeat ≡ m.inplace_repeat → (s : SlotId) → sequence_entry m s ≡ only is_of_sequences read s
 unfolding sequence_entry sort_of slot_sorts place_of

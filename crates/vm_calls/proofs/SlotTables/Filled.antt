@@ -1,14 +1,6 @@
 -- What tables have in each slot: nothing in an empty one, and what fills it in one that is made from methods.
-use Rattle.std.proofs.Common.{◌≡◌, Option, Some, None, refl}
-use Rattle.std.specs.Option.{option_or}
-use Rattle.py_node.specs.declared.entry.SlotId.{SlotId}
-use Rattle.py_node.specs.declared.entry.SlotId.TheVariants.{Add, Hash, Call, Repr, Getattro, Setattro, Richcompare, Iter, Iternext, DescrGet, DescrSet, Init, New, Del}
-use Rattle.py_node.specs.Operators.{operators}
-use Rattle.vm_calls.specs.declared.slot_tables.number.PyNumberMethods.{PyNumberMethods}
-use Rattle.vm_calls.specs.declared.slot_tables.number.PyNumberSlots.{PyNumberSlots}
-use Rattle.vm_calls.specs.declared.slot_tables.type_slots.PyTypeSlots.{PyTypeSlots}
-use Rattle.vm_calls.specs.SlotTables.Numbers.{number_entry, method_entry, given_by}
-use Rattle.vm_calls.specs.SlotTables.Tables.{sequence_entry, mapping_entry, type_entry}
+use Rattle.vm_calls.proofs.Below.{Option, Some, None, refl, option_or, SlotId, Add, Hash, Call, Repr, Getattro, Setattro, Richcompare, Iter, Iternext, DescrGet, DescrSet, Init, New, Del, operators, PyNumberMethods, PyNumberSlots, PyTypeSlots, number_entry, method_entry, given_by, sequence_entry, mapping_entry, type_entry}
+use Rattle.std.proofs.Common.{◌≡◌}
 
 pub no_methods : (s : SlotId) → method_entry (record { add = None; inplace_add = None; subtract = None; inplace_subtract = None; multiply = None; inplace_multiply = None; remainder = None; inplace_remainder = None; divmod = None; power = None; inplace_power = None; lshift = None; inplace_lshift = None; rshift = None; inplace_rshift = None; and = None; inplace_and = None; xor = None; inplace_xor = None; or = None; inplace_or = None; floor_divide = None; inplace_floor_divide = None; true_divide = None; inplace_true_divide = None; matrix_multiply = None; inplace_matrix_multiply = None; int = None; index = None; float = None; negative = None; positive = None; absolute = None; invert = None; boolean = None }) s ≡ None
 unfolding method_entry

@@ -1,21 +1,12 @@
 -- Of which kind a task's answer is.
-use Rattle.std.specs.Prelude.{Bool, true, false, eqb, ◌||◌, IsTrue, Some, None}
-use Rattle.py_node.specs.declared.refs.PyObjectRef.{PyObjectRef}
+use Rattle.vm_calls.specs.Below.{Bool, true, false, eqb, IsTrue, Some, None, PyObjectRef, NativeEntry, OfObject, OfNumber, OfStr, OfTuple, OfList, OfDict, SlotEntry, Native, fixed_false, fixed_true, PlainTask, PlainAnswer, AsValue, AsDone, AsNumber, AsTruth, AsMaybe, AsObjects, AsExhausted, AsFunction, AsAttribute, AsStart, AttributeJob, DescriptorJob, CallJob, OperatorJob, CompareJob, ProtocolJob, ObjectJob, ToEval, ToAttribute, ToDescriptor, ToCall, ToClass, ToOperator, ToCompare, ToProtocol, ToObject, ToNative, DoGenericOpt, DoSetAttr, DoGenericSet, DoTypeSet, DoHasAttr, DoLoadMethod, DoDescrSet, DoSuperInit, DoSuperCheck, DoInit, DoObject, DoEnter, DoEnterPower, DoRichBool, DoBoolEq, DoIdEq, DoSeqLt, DoSeqGt, DoIsTrue, DoLength, DoHint, DoSetItem, DoDelItem, DoSetSlice, DoDelSlice, DoNext, DoCollect, DoContains, DoCount, DoFind, DoHash, DoIsInstance, DoInst, DoIsSubclass, DoSub, DoAbsSub}
+use Rattle.std.specs.Prelude.{◌||◌}
 use Rattle.py_node.specs.declared.entry.DictNative.TheVariants as dict
 use Rattle.py_node.specs.declared.entry.ListNative.TheVariants as list
 use Rattle.py_node.specs.declared.entry.NumberNative.TheVariants as number
 use Rattle.py_node.specs.declared.entry.ObjectNative.TheVariants as object
 use Rattle.py_node.specs.declared.entry.StrNative.TheVariants as str
 use Rattle.py_node.specs.declared.entry.TupleNative.TheVariants as tuple
-use Rattle.py_node.specs.declared.entry.NativeEntry.{NativeEntry}
-use Rattle.py_node.specs.declared.entry.NativeEntry.TheVariants.{OfObject, OfNumber, OfStr, OfTuple, OfList, OfDict}
-use Rattle.py_node.specs.declared.entry.SlotEntry.{SlotEntry}
-use Rattle.py_node.specs.declared.entry.SlotEntry.TheVariants.{Native}
-use Rattle.py_node.specs.BuiltIns.{fixed_false, fixed_true}
-use Rattle.plain_machine.specs.Plain.{PlainTask, PlainAnswer, AsValue, AsDone, AsNumber, AsTruth, AsMaybe, AsObjects, AsExhausted, AsFunction, AsAttribute, AsStart}
-use Rattle.plain_machine.specs.Plain.{AttributeJob, DescriptorJob, CallJob, OperatorJob, CompareJob, ProtocolJob, ObjectJob, ToEval, ToAttribute, ToDescriptor, ToCall, ToClass, ToOperator, ToCompare, ToProtocol, ToObject, ToNative}
-use Rattle.plain_machine.specs.Plain.{DoGenericOpt, DoSetAttr, DoGenericSet, DoTypeSet, DoHasAttr, DoLoadMethod, DoDescrSet, DoSuperInit, DoSuperCheck, DoInit, DoObject, DoEnter, DoEnterPower, DoRichBool, DoBoolEq, DoIdEq, DoSeqLt, DoSeqGt}
-use Rattle.plain_machine.specs.Plain.{DoIsTrue, DoLength, DoHint, DoSetItem, DoDelItem, DoSetSlice, DoDelSlice, DoNext, DoCollect, DoContains, DoCount, DoFind, DoHash, DoIsInstance, DoInst, DoIsSubclass, DoSub, DoAbsSub}
 
 -- the kinds of answers
 pub data Kind : Type 0 where

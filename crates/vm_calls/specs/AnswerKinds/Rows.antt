@@ -1,22 +1,6 @@
 -- The law: a task that is answered is answered by its kind.
-use Rattle.std.specs.Prelude.{◌≡◌, ℕ, List, Ok}
-use Rattle.py_node.specs.declared.refs.PyObjectRef.{PyObjectRef}
-use Rattle.py_node.specs.declared.entry.NativeEntry.{NativeEntry}
-use Rattle.plain_machine.specs.Plain.{PlainWorld, PlainTask, PlainAnswer, Bindings, EvalJob, AttributeJob, DescriptorJob, CallJob, ClassJob, OperatorJob, CompareJob, ProtocolJob, ObjectJob, DoIsTrue, DoIndex, DoWhole, DoLength, DoHint, DoGetIter, DoNext, DoCollect, DoContains, DoCount, DoFind, ToEval, ToAttribute, ToDescriptor, ToCall, ToClass, ToOperator, ToCompare, ToProtocol, ToObject, ToNative, Told, Saying}
-use Rattle.plain_machine.specs.Row.{Row}
-use Rattle.plain_machine.specs.Answer.{answer, Out, Over}
-use Rattle.proto_call.specs.EvalForms.Say.{eval_say}
-use Rattle.proto_attr.specs.Say.{attribute_say}
-use Rattle.proto_attr.specs.ProtoDescr.Say.{descriptor_say}
-use Rattle.proto_call.specs.Say.{call_job_say}
-use Rattle.proto_call.specs.ClassMake.Say.{class_job_say}
-use Rattle.proto_ops.specs.Say.{operator_say}
-use Rattle.proto_ops.specs.ProtoCompare.Say.{compare_job_say}
-use Rattle.proto_object.specs.ProtoNumber.Say.{number_job_say}
-use Rattle.proto_object.specs.ProtoIter.Say.{iter_job_say}
-use Rattle.proto_object.specs.ProtoItems.Say.{items_job_say}
-use Rattle.proto_object.specs.Say.{object_job_say}
-use Rattle.vm_eval.specs.OfNatives.Say.{native_job_say}
+use Rattle.vm_calls.specs.Below.{ℕ, List, Ok, PyObjectRef, NativeEntry, PlainWorld, PlainTask, PlainAnswer, Bindings, EvalJob, AttributeJob, DescriptorJob, CallJob, ClassJob, OperatorJob, CompareJob, ProtocolJob, ObjectJob, DoIsTrue, DoIndex, DoWhole, DoLength, DoHint, DoGetIter, DoNext, DoCollect, DoContains, DoCount, DoFind, ToEval, ToAttribute, ToDescriptor, ToCall, ToClass, ToOperator, ToCompare, ToProtocol, ToObject, ToNative, Told, Saying, Row, answer, Out, Over, eval_say, attribute_say, descriptor_say, call_job_say, class_job_say, operator_say, compare_job_say, number_job_say, iter_job_say, items_job_say, object_job_say, native_job_say}
+use Rattle.std.specs.Prelude.{◌≡◌}
 use Rattle.vm_calls.specs.AnswerKinds.Kinds.{IsOfKind}
 
 -- tasks of protocols are of three groups

@@ -1,23 +1,8 @@
 -- Methods that are loaded to be called at once.
-use Rattle.std.specs.Prelude.{◌≡◌, ℕ, suc, ◌<◌, true, false, List, [], ◌∷◌, Option, Some, Ok, ◌⊎◌}
-use Rattle.py_node.specs.declared.refs.PyObjectRef.{PyObjectRef}
-use Rattle.py_node.specs.declared.built_in.BuiltIn.{BuiltIn}
+use Rattle.vm_calls.specs.Below.{ℕ, suc, true, false, List, [], Option, Some, Ok, PyObjectRef, BuiltIn, NativeEntry, place_of, flags_of, heap_type, method_descriptor, Text, Class, has_flag, Datum, AMethod, ABuiltinMethod, AMethodDescriptor, PlainWorld, PlainTask, Bindings, AttributeJob, DescriptorJob, DoGetAttr, DoLoadMethod, DoInvoke, DoCall, ToAttribute, ToDescriptor, ToCall, AsFunction, Told, Asks, Ends, Saying, class_at, datum_at, with_node, next_node, the_none_type, the_method, the_builtin_method, native_task, none, value, IsSound, answer, Out, Over, flags_at, is_marked_heap, attribute_say, descriptor_say, call_job_say}
+use Rattle.std.specs.Prelude.{◌≡◌, ◌<◌, ◌∷◌, ◌⊎◌}
 use Rattle.py_node.specs.declared.built_in.BuiltIn.TheVariants as built_in
-use Rattle.py_node.specs.declared.entry.NativeEntry.{NativeEntry}
-use Rattle.py_node.specs.BuiltIns.{place_of, flags_of, heap_type, method_descriptor}
-use Rattle.py_node.specs.Tree.{Text}
-use Rattle.class_model.specs.Class.{Class, class_at as class_numbered, has_flag}
-use Rattle.plain_machine.specs.Plain.{Datum, AMethod, ABuiltinMethod, AMethodDescriptor, PlainWorld, PlainTask, Bindings, AttributeJob, DescriptorJob, DoGetAttr, DoLoadMethod, DoInvoke, DoCall, ToAttribute, ToDescriptor, ToCall, AsFunction, Told, Asks, Ends, Saying}
-use Rattle.plain_machine.specs.World.{class_at, datum_at, with_node, next_node}
-use Rattle.plain_machine.specs.Known.{the_none_type, the_method, the_builtin_method}
-use Rattle.plain_machine.specs.Native.{native_task}
-use Rattle.plain_machine.specs.Row.{none, value}
-use Rattle.plain_machine.specs.Sound.{IsSound}
-use Rattle.plain_machine.specs.Answer.{answer, Out, Over}
-use Rattle.class_world.specs.Sound.{flags_at, is_marked_heap}
-use Rattle.proto_attr.specs.Say.{attribute_say}
-use Rattle.proto_attr.specs.ProtoDescr.Say.{descriptor_say}
-use Rattle.proto_call.specs.Say.{call_job_say}
+use Rattle.class_model.specs.Class.{class_at as class_numbered}
 
 -- tasks of attributes and of descriptors go by their rows
 pub record GoesByRows (say : Saying PlainTask) : Type 0 where

@@ -1,19 +1,11 @@
 -- What a view of an object shows: the slots of its class.
-use Rattle.std.specs.Prelude.{◌≡◌, Bool, cond, not, ◌&&◌, Option, None}
-use Rattle.py_node.specs.declared.refs.PyObjectRef.{PyObjectRef}
-use Rattle.py_node.specs.declared.entry.SlotId.{SlotId}
-use Rattle.py_node.specs.declared.entry.SlotId.TheVariants.{Repr}
-use Rattle.py_node.specs.declared.entry.SlotEntry.{SlotEntry}
-use Rattle.py_node.specs.declared.slots.Sort.TheVariants.{BySequence, ByMapping}
-use Rattle.py_node.specs.Slots.{is_slot, sort_of}
+use Rattle.vm_calls.specs.Below.{Bool, cond, not, Option, None, PyObjectRef, SlotId, Repr, SlotEntry, BySequence, ByMapping, is_slot, sort_of, is_sort, is_by_itself, PlainWorld, slot_at}
+use Rattle.std.specs.Prelude.{◌≡◌, ◌&&◌}
 use Rattle.vm_calls.specs.declared.slot_tables.number.PyNumberSlots.{PyNumberSlots}
 use Rattle.vm_calls.specs.declared.slot_tables.type_slots.PySequenceMethods.{PySequenceMethods}
 use Rattle.vm_calls.specs.declared.slot_tables.type_slots.PyMappingMethods.{PyMappingMethods}
 use Rattle.vm_calls.specs.SlotTables.Numbers.{number_entry}
 use Rattle.vm_calls.specs.SlotTables.Tables.{sequence_entry, mapping_entry}
-use Rattle.class_model.specs.Slot.{is_sort, is_by_itself}
-use Rattle.plain_machine.specs.Plain.{PlainWorld}
-use Rattle.plain_machine.specs.World.{slot_at}
 use Rattle.vm_calls.specs.declared.protocols.callable.PyCallable.{PyCallable}
 
 -- whether a slot is one of sequences, of mappings, or of numbers

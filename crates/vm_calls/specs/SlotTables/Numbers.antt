@@ -1,12 +1,7 @@
 -- The slots of numbers: which field of a table holds each, which each operator asks, and what fills the right ones.
-use Rattle.std.specs.Prelude.{Bool, true, false, cond, Option, Some, None, find}
-use Rattle.py_node.specs.declared.entry.SlotId.{SlotId}
+use Rattle.vm_calls.specs.Below.{Bool, true, false, cond, Option, Some, None, find, SlotId, SlotEntry, PyNumberBinaryOp as Operator, OperatorRow, operators, operator_row, is_slot}
 use Rattle.py_node.specs.declared.entry.SlotId.TheVariants as slot
-use Rattle.py_node.specs.declared.entry.SlotEntry.{SlotEntry}
-use Rattle.py_node.specs.declared.task.PyNumberBinaryOp.{PyNumberBinaryOp as Operator}
 use Rattle.py_node.specs.declared.task.PyNumberBinaryOp.TheVariants as operator
-use Rattle.py_node.specs.Operators.{OperatorRow, operators, operator_row}
-use Rattle.py_node.specs.Slots.{is_slot}
 use Rattle.vm_calls.specs.declared.slot_tables.number.PyNumberMethods.{PyNumberMethods}
 use Rattle.vm_calls.specs.declared.slot_tables.number.PyNumberSlots.{PyNumberSlots}
 use Rattle.vm_calls.specs.declared.slot_tables.op.PyNumberBinaryOp.{PyNumberBinaryOp}

@@ -1,9 +1,6 @@
 -- What tables of sequences and mappings, and all slots of a class, have in a slot.
-use Rattle.std.specs.Prelude.{Option, None}
-use Rattle.std.specs.Option.{option_or}
-use Rattle.py_node.specs.declared.entry.SlotId.{SlotId}
+use Rattle.vm_calls.specs.Below.{Option, None, option_or, SlotId, SlotEntry}
 use Rattle.py_node.specs.declared.entry.SlotId.TheVariants as slot
-use Rattle.py_node.specs.declared.entry.SlotEntry.{SlotEntry}
 use Rattle.vm_calls.specs.SlotTables.Numbers.{number_entry}
 use Rattle.vm_calls.specs.declared.slot_tables.type_slots.PySequenceMethods.{PySequenceMethods}
 use Rattle.vm_calls.specs.declared.slot_tables.type_slots.PyMappingMethods.{PyMappingMethods}

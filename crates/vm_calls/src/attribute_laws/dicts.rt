@@ -1,12 +1,7 @@
 //! Whether objects have a dict, after their class or its bases are changed.
 
-ghost use Rattle.std.specs.Prelude.{◌≡◌, ℕ, List, true, None};
-ghost use Rattle.class_model.specs.Change.{with_bases};
-ghost use Rattle.class_model.specs.Class.{is_class};
-ghost use Rattle.class_model.specs.Dict.{gives_dict};
-ghost use Rattle.class_table.specs.Rebase.{refused_class, refused_rebase};
-ghost use Rattle.class_table.specs.Refused.{AreThere};
-ghost use Rattle.class_world.specs.Reading.{Reading, plain};
+ghost use Rattle.vm_calls.specs.Below.{ℕ, List, true, None, with_bases, is_class, gives_dict, refused_class, refused_rebase, AreThere, Reading, plain};
+ghost use Rattle.std.specs.Prelude.{◌≡◌};
 
 use class_world::World;
 

@@ -1,7 +1,7 @@
 //! Methods that are loaded to be called at once.
 
 ghost use Rattle.vm_calls.specs.AttributeLaws.Methods.{IsUsual, MethodAsksIt, NativeIsAsked, ReadIsAMethod, TargetIsFirst};
-ghost use Rattle.class_world.specs.Reading.{Reading, plain};
+ghost use Rattle.vm_calls.specs.Below.{Reading, plain};
 
 use class_world::World;
 

@@ -1,10 +1,8 @@
 //! An object that can be called.
 
-ghost use Rattle.std.specs.Prelude.{◌≡◌, is_some, option_map, IfSome};
+ghost use Rattle.vm_calls.specs.Below.{is_some, option_map, IfSome, slot_at, Reading, Reads, plain, IsNode, Holds};
+ghost use Rattle.std.specs.Prelude.{◌≡◌};
 ghost use Rattle.py_node.specs.declared.entry.SlotId.TheVariants.{Call};
-ghost use Rattle.plain_machine.specs.World.{slot_at};
-ghost use Rattle.class_world.specs.Reading.{Reading, Reads, plain};
-ghost use Rattle.class_world.specs.Sound.{IsNode, Holds};
 ghost use Rattle.vm_calls.specs.OfProtocols.Views.{called_by};
 
 use class_world::World;

@@ -1,12 +1,7 @@
 //! An object as a mapping.
 
-ghost use Rattle.std.specs.Prelude.{◌≡◌, is_some, is_ok, IfOk, IfErr};
-ghost use Rattle.py_node.specs.Faults.{raised};
-ghost use Rattle.py_node.specs.declared.entry.SlotId.TheVariants.{MapSubscript};
-ghost use Rattle.py_node.specs.declared.raised.Cause.TheVariants.{NotMapping};
-ghost use Rattle.plain_machine.specs.World.{slot_at};
-ghost use Rattle.class_world.specs.Reading.{Reading, Reads, plain};
-ghost use Rattle.class_world.specs.Sound.{IsNode, Holds};
+ghost use Rattle.vm_calls.specs.Below.{is_some, is_ok, IfOk, IfErr, raised, MapSubscript, NotMapping, slot_at, Reading, Reads, plain, IsNode, Holds};
+ghost use Rattle.std.specs.Prelude.{◌≡◌};
 ghost use Rattle.vm_calls.specs.OfProtocols.Views.{HasMappingSlots};
 
 use crate::slot_tables::PyMappingMethods;

@@ -1,8 +1,7 @@
 //! An object as a number.
 
-ghost use Rattle.std.specs.Prelude.{◌≡◌, ◌||◌, is_some};
-ghost use Rattle.class_world.specs.Reading.{Reading, Reads, plain};
-ghost use Rattle.class_world.specs.Sound.{IsNode, Holds};
+ghost use Rattle.vm_calls.specs.Below.{is_some, Reading, Reads, plain, IsNode, Holds};
+ghost use Rattle.std.specs.Prelude.{◌≡◌, ◌||◌};
 ghost use Rattle.vm_calls.specs.OfProtocols.Views.{HasNumberSlots};
 
 use crate::slot_tables::PyNumberSlots;

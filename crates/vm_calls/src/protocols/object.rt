@@ -1,9 +1,7 @@
 //! What the class of an object is.
 
 ghost use Rattle.std.specs.Prelude.{◌≡◌};
-ghost use Rattle.plain_machine.specs.Objects.{type_object, is_instance};
-ghost use Rattle.class_world.specs.Reading.{Reading, plain};
-ghost use Rattle.class_world.specs.Sound.{IsNode, IsClass, Holds};
+ghost use Rattle.vm_calls.specs.Below.{type_object, is_instance, Reading, plain, IsNode, IsClass, Holds};
 
 use class_world::World;
 use py_node::{PyObjectRef, PyTypeRef};

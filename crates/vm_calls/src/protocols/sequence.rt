@@ -1,12 +1,7 @@
 //! An object as a sequence.
 
-ghost use Rattle.std.specs.Prelude.{◌≡◌, is_some, is_ok, IfOk, IfErr};
-ghost use Rattle.py_node.specs.Faults.{raised};
-ghost use Rattle.py_node.specs.declared.entry.SlotId.TheVariants.{SeqItem};
-ghost use Rattle.py_node.specs.declared.raised.Cause.TheVariants.{NotSequence};
-ghost use Rattle.plain_machine.specs.World.{slot_at};
-ghost use Rattle.class_world.specs.Reading.{Reading, Reads, plain};
-ghost use Rattle.class_world.specs.Sound.{IsNode, Holds};
+ghost use Rattle.vm_calls.specs.Below.{is_some, is_ok, IfOk, IfErr, raised, SeqItem, NotSequence, slot_at, Reading, Reads, plain, IsNode, Holds};
+ghost use Rattle.std.specs.Prelude.{◌≡◌};
 ghost use Rattle.vm_calls.specs.OfProtocols.Views.{HasSequenceSlots};
 
 use crate::slot_tables::PySequenceMethods;

@@ -1,7 +1,7 @@
 //! What a class has in the slots of numbers, and what a class gives of them for itself.
 
-ghost use Rattle.std.specs.Prelude.{◌≡◌, None, option_and_then};
-ghost use Rattle.py_node.specs.declared.entry.SlotId.{SlotId as Slot};
+ghost use Rattle.vm_calls.specs.Below.{None, option_and_then, SlotId as Slot};
+ghost use Rattle.std.specs.Prelude.{◌≡◌};
 ghost use Rattle.vm_calls.specs.SlotTables.Numbers.{number_entry, method_entry, given_by, left_slot_of, right_slot_of, left_power, right_power};
 
 use crate::slot_tables::op::{PyNumberBinaryOp, PyNumberTernaryOp};

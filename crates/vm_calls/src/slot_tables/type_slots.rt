@@ -1,7 +1,7 @@
 //! What a class has in the slots of sequences and of mappings, and in all of its slots.
 
-ghost use Rattle.std.specs.Prelude.{◌≡◌, [], None};
-ghost use Rattle.py_node.specs.declared.entry.SlotId.{SlotId as Slot};
+ghost use Rattle.vm_calls.specs.Below.{[], None, SlotId as Slot};
+ghost use Rattle.std.specs.Prelude.{◌≡◌};
 ghost use Rattle.vm_calls.specs.SlotTables.Tables.{sequence_entry, mapping_entry, table_entry, type_entry};
 
 use crate::slot_tables::number::PyNumberSlots;

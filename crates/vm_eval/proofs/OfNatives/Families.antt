@@ -1,51 +1,16 @@
 -- What a family of natives says is what they say among all.
-use Rattle.std.proofs.Common.{◌≡◌, ◌∙◌, [], ◌∷◌, ◌++◌, List, refl, sym, ap, subst, Result}
-use Rattle.py_node.specs.declared.raised.Raised.{Raised as Fault}
-use Rattle.py_node.specs.declared.refs.PyObjectRef.{PyObjectRef}
-use Rattle.py_node.specs.declared.refs.PyStrInterned.{PyStrInterned}
-use Rattle.py_node.specs.declared.entry.NativeEntry.{NativeEntry}
-use Rattle.py_node.specs.declared.task.Answer.{Answer}
-use Rattle.py_node.specs.declared.task.Step.{Step}
-use Rattle.py_node.specs.declared.task.Step.TheVariants.{Ask, End}
-use Rattle.plain_machine.specs.Plain.{PlainWorld, PlainTask, Bindings, ToEval, ToAttribute, ToDescriptor, ToCall, ToClass, ToOperator, ToCompare, ToProtocol, ToObject, ToNative, Answered, Told, Said, Asks, Ends, Saying}
-use Rattle.plain_machine.specs.Row.{Row}
-use Rattle.plain_machine.specs.Rows.{Pending, Alike, fresh, given}
-use Rattle.class_world.specs.declared.world.World.{World}
-use Rattle.class_world.specs.Reading.{Reading, Reads, bindings, plain, ended_of}
-use Rattle.class_world.specs.Rows.{EndsAs, Steps, Goes}
-use Rattle.proto_attr.specs.declared.native_calls.NativeKept.{NativeKept}
+use Rattle.vm_eval.proofs.Below.{◌∙◌, [], List, refl, sym, ap, subst, Result, Raised as Fault, PyObjectRef, PyStrInterned, NativeEntry, Answer, Step, Ask, End, PlainWorld, PlainTask, Bindings, ToEval, ToAttribute, ToDescriptor, ToCall, ToClass, ToOperator, ToCompare, ToProtocol, ToObject, ToNative, Answered, Told, Said, Asks, Ends, Saying, Row, Pending, Alike, fresh, given, World, Reading, Reads, bindings, plain, ended_of, EndsAs, Steps, Goes, NativeKept, Class, Static, asking_job_say, asking_stands, ItemKept, item_job_say, item_stands, PartsKept, parts_job_say, parts_stands, ComparedKept, compared_job_say, compared_stands, RepeatKept, Repeated, entry_of, repeat_job_say, repeat_stands, DetailKept, detail_job_say, detail_stands, Family, NativesKept, ForParts, ForComparisons, ForRepeats, ForDetails, ForCalls, NativeJob, by_family, family_of, native_by, native_job_say, as_job, job_of, kept_among, native_job, natives_stands}
+use Rattle.std.proofs.Common.{◌≡◌, ◌∷◌, ◌++◌}
 use Rattle.proto_attr.specs.declared.native_calls.NativeKept.TheVariants as calls
-use Rattle.proto_attr.specs.declared.native_calls.way.Wrapper.TheVariants.{Class, Static}
-use Rattle.proto_attr.specs.NativeCalls.Say.{asking_job_say}
-use Rattle.proto_attr.specs.NativeCalls.Asks.{asking_stands}
-use Rattle.native_containers.specs.declared.native_items.ItemKept.{ItemKept}
 use Rattle.native_containers.specs.declared.native_items.ItemKept.TheVariants as items
-use Rattle.native_containers.specs.NativeItems.Say.{item_job_say}
-use Rattle.native_containers.specs.NativeItems.Rows.{item_stands}
-use Rattle.native_containers.specs.declared.native_parts.PartsKept.{PartsKept}
 use Rattle.native_containers.specs.declared.native_parts.PartsKept.TheVariants as parts
 use Rattle.native_containers.specs.declared.native_parts.take.Container.TheVariants as container
 use Rattle.native_containers.specs.declared.native_parts.wrapped.Wrapper.TheVariants as wrapper
-use Rattle.native_containers.specs.NativeParts.Say.{parts_job_say}
-use Rattle.native_containers.specs.NativeParts.Rows.{parts_stands}
-use Rattle.native_containers.specs.declared.native_compare.ComparedKept.{ComparedKept}
-use Rattle.native_containers.specs.NativeCompare.Say.{compared_job_say}
-use Rattle.native_containers.specs.NativeCompare.Rows.{compared_stands}
-use Rattle.proto_ops.specs.declared.native_repeats.RepeatKept.{RepeatKept}
-use Rattle.proto_ops.specs.declared.native_repeats.kind.Repeated.{Repeated}
 use Rattle.proto_ops.specs.declared.native_repeats.kind.Repeated.TheVariants as repeated
-use Rattle.proto_ops.specs.NativeRepeats.Say.{entry_of, repeat_job_say}
-use Rattle.proto_ops.specs.NativeRepeats.Rows.{repeat_stands}
-use Rattle.proto_attr.specs.declared.native_details.DetailKept.{DetailKept}
 use Rattle.proto_attr.specs.declared.native_details.DetailKept.TheVariants as details
-use Rattle.proto_attr.specs.NativeDetails.Say.{detail_job_say}
-use Rattle.proto_attr.specs.NativeDetails.Rows.{detail_stands}
-use Rattle.vm_eval.specs.declared.natives.family.Family.{Family}
 use Rattle.vm_eval.specs.declared.natives.family.Family.TheVariants as family
-use Rattle.vm_eval.specs.declared.natives.NativesKept.{NativesKept}
-use Rattle.vm_eval.specs.declared.natives.NativesKept.TheVariants.{ForItems, ForParts, ForComparisons, ForRepeats, ForDetails, ForCalls}
-use Rattle.vm_eval.specs.OfNatives.Say.{NativeJob, by_family, family_of, native_by, native_job_say}
-use Rattle.vm_eval.specs.OfNatives.Rows.{as_job, job_of, kept_among, native_job, natives_stands, Begins, Resumes}
+use Rattle.vm_eval.specs.declared.natives.NativesKept.TheVariants.{ForItems}
+use Rattle.vm_eval.specs.OfNatives.Rows.{Begins, Resumes}
 
 -- a task is a native of a family
 abbrev pub IsOfFamily : Family → PlainTask → Type 0

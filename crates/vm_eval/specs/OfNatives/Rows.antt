@@ -1,25 +1,5 @@
 -- What the contracts of natives say.
-use Rattle.std.specs.Prelude.{List, [], Result}
-use Rattle.py_node.specs.declared.refs.PyObjectRef.{PyObjectRef}
-use Rattle.py_node.specs.declared.refs.PyStrInterned.{PyStrInterned}
-use Rattle.py_node.specs.declared.raised.Raised.{Raised as Fault}
-use Rattle.py_node.specs.declared.entry.NativeEntry.{NativeEntry}
-use Rattle.py_node.specs.declared.entry.NativeEntry.TheVariants.{NewWrapper}
-use Rattle.py_node.specs.declared.task.Answer.{Answer}
-use Rattle.py_node.specs.declared.task.Step.{Step}
-use Rattle.py_node.specs.declared.task.Step.TheVariants.{Ask, End}
-use Rattle.plain_machine.specs.Plain.{PlainTask, ToNative}
-use Rattle.plain_machine.specs.Rows.{Pending, fresh, given}
-use Rattle.class_world.specs.declared.world.World.{World}
-use Rattle.class_world.specs.Reading.{Reading, bindings, ended_of}
-use Rattle.class_world.specs.Rows.{Goes}
-use Rattle.class_world.specs.Sound.{Claim}
-use Rattle.proto_attr.specs.NativeCalls.Asks.{asking_stands, of_native_kept}
-use Rattle.native_containers.specs.NativeItems.Rows.{item_stands, of_item_kept}
-use Rattle.native_containers.specs.NativeParts.Rows.{parts_stands, of_parts_kept}
-use Rattle.native_containers.specs.NativeCompare.Rows.{compared_stands, of_compared_kept}
-use Rattle.proto_ops.specs.NativeRepeats.Rows.{repeat_stands, of_repeat_kept}
-use Rattle.proto_attr.specs.NativeDetails.Rows.{detail_stands, of_detail_kept}
+use Rattle.vm_eval.specs.Below.{List, [], Result, PyObjectRef, PyStrInterned, Raised as Fault, NativeEntry, NewWrapper, Answer, Step, Ask, End, PlainTask, ToNative, Pending, fresh, given, World, Reading, bindings, ended_of, Goes, Claim, asking_stands, of_native_kept, item_stands, of_item_kept, parts_stands, of_parts_kept, compared_stands, of_compared_kept, repeat_stands, of_repeat_kept, detail_stands, of_detail_kept}
 use Rattle.vm_eval.specs.declared.natives.NativesKept.{NativesKept}
 use Rattle.vm_eval.specs.declared.natives.NativesKept.TheVariants.{ForItems, ForParts, ForComparisons, ForRepeats, ForDetails, ForCalls}
 use Rattle.vm_eval.specs.OfNatives.Say.{NativeJob, native_job_say}

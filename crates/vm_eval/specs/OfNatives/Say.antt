@@ -1,26 +1,7 @@
 -- What natives say that stand in no group of tasks.
-use Rattle.std.specs.Prelude.{if◌then◌else◌, List}
-use Rattle.py_node.specs.declared.refs.PyObjectRef.{PyObjectRef}
-use Rattle.py_node.specs.declared.built_in.BuiltIn.TheVariants.{Int, Str}
-use Rattle.py_node.specs.declared.entry.NativeEntry.{NativeEntry}
-use Rattle.py_node.specs.declared.entry.NativeEntry.TheVariants.{OfFixed, OfNumber, OfArithmetic, OfBits, OfStr, Compare, OfTuple, OfList, OfDict, OfIterator, OfCallable, OfDescriptor, OfProperty, OfWrapper, OfSuper, NewOf, Getter, Setter, GetterOf, SetterOf}
-use Rattle.plain_machine.specs.Plain.{PlainWorld, Bindings, Said, Ends}
-use Rattle.plain_machine.specs.Row.{Row, start, end, elsewhere}
-use Rattle.native_containers.specs.NativeItems.Say.{asks_for_items, items_native_say}
-use Rattle.native_containers.specs.NativeParts.Say.{asks_for_parts, parts_native_say}
-use Rattle.native_containers.specs.NativeCompare.Say.{compares_items, compare_native_say}
-use Rattle.proto_ops.specs.NativeRepeats.Say.{repeats, repeat_native_say}
-use Rattle.native_containers.specs.Say.{tuple_say, list_say, dict_say, iterator_say}
-use Rattle.proto_ops.specs.NativeNumbers.Say.{fixed_say, number_say, arithmetic_say, bits_say, compare_say}
-use Rattle.native_containers.specs.NativeTexts.Say.{text_say, compare_text_say}
-use Rattle.proto_attr.specs.NativeObjects.Descriptors.{callable_say, descriptor_native_say, property_say, wrapper_say, super_say}
-use Rattle.proto_attr.specs.NativeObjects.Makers.{maker_say}
-use Rattle.proto_attr.specs.NativeObjects.Getters.{getter_say}
-use Rattle.proto_attr.specs.NativeObjects.Setters.{setter_say}
-use Rattle.proto_attr.specs.NativeObjects.DetailSetters.{setter_of_say}
-use Rattle.proto_attr.specs.NativeObjects.Details.{getter_of_say}
-use Rattle.proto_attr.specs.NativeCalls.Say.{asks, asking_say}
-use Rattle.proto_attr.specs.NativeDetails.Say.{asks_for_details, details_native_say}
+use Rattle.vm_eval.specs.Below.{List, PyObjectRef, Int, Str, NativeEntry, OfFixed, OfNumber, OfArithmetic, OfBits, OfStr, Compare, OfTuple, OfList, OfDict, OfIterator, OfCallable, OfDescriptor, OfProperty, OfWrapper, OfSuper, NewOf, Getter, Setter, GetterOf, SetterOf, PlainWorld, Bindings, Said, Ends, Row, end, elsewhere, asks_for_items, items_native_say, asks_for_parts, parts_native_say, compares_items, compare_native_say, repeats, repeat_native_say, tuple_say, list_say, dict_say, iterator_say, fixed_say, number_say, arithmetic_say, bits_say, compare_say, text_say, compare_text_say, callable_say, descriptor_native_say, property_say, wrapper_say, super_say, maker_say, getter_say, setter_say, setter_of_say, getter_of_say, asks, asking_say, asks_for_details, details_native_say}
+use Rattle.std.specs.Prelude.{if◌then◌else◌}
+use Rattle.plain_machine.specs.Row.{start}
 use Rattle.vm_eval.specs.declared.natives.family.Family.{Family}
 use Rattle.vm_eval.specs.declared.natives.family.Family.TheVariants as family
 

@@ -1,10 +1,6 @@
 //! The natives that ask nothing.
 
-ghost use Rattle.std.specs.Prelude.{IfOk};
-ghost use Rattle.class_world.specs.Claims.{of_args};
-ghost use Rattle.class_world.specs.Reading.{bindings};
-ghost use Rattle.class_world.specs.Sound.{AllHold};
-ghost use Rattle.class_world.specs.Rows.{EndsAs, LeavesEnd};
+ghost use Rattle.vm_eval.specs.Below.{IfOk, of_args, bindings, AllHold, EndsAs, LeavesEnd};
 ghost use Rattle.vm_eval.specs.OfNatives.Say.{native_by};
 
 use class_world::World;

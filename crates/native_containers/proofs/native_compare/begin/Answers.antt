@@ -1,11 +1,7 @@
-use Rattle.std.proofs.Common.{◌≡◌, ◌∙◌, ap}
+use Rattle.native_containers.proofs.Lemmas.{◌∙◌, ap, Compare, bindings, dicts_by, sequences_by, compare_native_say, begins-ok}
+use Rattle.std.proofs.Common.{◌≡◌}
 use Rattle.py_node.specs.declared.built_in.BuiltIn.TheVariants as built_in
-use Rattle.py_node.specs.declared.entry.NativeEntry.TheVariants.{Compare}
-use Rattle.class_world.specs.Reading.{bindings}
 use Rattle.row_kit.specs.declared.take_containers.Kind.TheVariants as kind
-use Rattle.native_containers.specs.NativeCompare.Containers.{dicts_by, sequences_by}
-use Rattle.native_containers.specs.NativeCompare.Say.{compare_native_say}
-use Rattle.native_containers.proofs.NativeCompare.Begun.{begins-ok}
 use Rattle.native_containers.proofs.native_compare.begin.Goals as goal
 
 pub returns-in-Compare-Tuple-default-clause-goes : goal.returns-in-Compare-Tuple-default-clause-goes

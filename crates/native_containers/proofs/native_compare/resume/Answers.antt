@@ -1,6 +1,4 @@
-use Rattle.native_containers.specs.NativeCompare.Containers.{in_turn}
-use Rattle.native_containers.specs.NativeCompare.Rows.{left}
-use Rattle.native_containers.proofs.NativeCompare.Turns.{resumes-end, resumes-turn}
+use Rattle.native_containers.proofs.Lemmas.{in_turn, left, resumes-end, resumes-turn}
 use Rattle.native_containers.proofs.native_compare.resume.Goals as goal
 
 pub returns-in-Some-clause-goes : goal.returns-in-Some-clause-goes

@@ -1,14 +1,4 @@
-use Rattle.std.proofs.Common.{[], subst, sym, refl}
-use Rattle.plain_machine.specs.World.{datum_at}
-use Rattle.class_world.specs.Reading.{ended_of, plain}
-use Rattle.native_containers.specs.declared.native_items.ItemKept.TheVariants.{Getting, GettingCharacter, Setting, Deleting, Extending, Iterating}
-use Rattle.native_containers.specs.NativeItems.Items.{item_got, set_rest, del_rest, extend_rest, char_rest, chars_at}
-use Rattle.native_containers.specs.NativeItems.Iterators.{iterator_in, next_rest}
-use Rattle.py_node.specs.declared.task.Step.TheVariants.{End}
-use Rattle.native_containers.specs.NativeItems.Rows.{Resumes, items_stood}
-use Rattle.native_containers.specs.NativeItems.Say.{item_job_say}
-use Rattle.native_containers.proofs.NativeItems.Standing.{getting-on, setting-on, deleting-on, extending-on}
-use Rattle.native_containers.proofs.NativeItems.Steps.{ends-resumes}
+use Rattle.native_containers.proofs.Lemmas.{[], subst, sym, refl, datum_at, ended_of, plain, Getting, GettingCharacter, Setting, Deleting, Extending, Iterating, item_got, set_rest, del_rest, extend_rest, char_rest, chars_at, iterator_in, next_rest, End, Resumes, items_stood, item_job_say, getting-on, setting-on, deleting-on, extending-on, ends-resumes}
 use Rattle.native_containers.proofs.native_items.resume.Goals as goal
 
 pub returns-in-Getting-clause-goes : goal.returns-in-Getting-clause-goes

@@ -1,7 +1,6 @@
-use Rattle.std.proofs.Common.{◌≡◌, IfOk, sym, subst}
+use Rattle.native_containers.proofs.Lemmas.{IfOk, sym, subst, NewOf, Starts}
+use Rattle.std.proofs.Common.{◌≡◌}
 use Rattle.py_node.specs.declared.built_in.BuiltIn.TheVariants as built_in
-use Rattle.py_node.specs.declared.entry.NativeEntry.TheVariants.{NewOf}
-use Rattle.native_containers.specs.NativeParts.Rows.{Starts}
 use Rattle.native_containers.proofs.native_parts.begin.Goals as goal
 
 pub returns-in-NewOf-Int-clause-goes : goal.returns-in-NewOf-Int-clause-goes

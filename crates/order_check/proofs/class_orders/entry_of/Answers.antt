@@ -1,6 +1,5 @@
-use Rattle.std.proofs.Common.{◌≡◌, Some, string_bytes, sym, ap, ◌∙◌}
-use Rattle.class_table.specs.Keys.{numbers}
-use Rattle.order_check.proofs.ClassOrders.Same.{shown-at}
+use Rattle.order_check.proofs.Lemmas.{Some, string_bytes, sym, ap, ◌∙◌, numbers, shown-at}
+use Rattle.std.proofs.Common.{◌≡◌}
 use Rattle.order_check.proofs.class_orders.entry_of.Goals as goal
 
 pub returns : goal.returns

@@ -1,7 +1,6 @@
-use Rattle.std.proofs.Common.{[], ◌∷◌, map, ap, ◌∙◌, arith}
-use Rattle.std.proofs.lemmas.List.{map-append, length-map}
-use Rattle.order_check.specs.ClassOrders.Shown.{shown, class_shown}
-use Rattle.order_check.proofs.ClassOrders.Same.{order-same, all-same, keyed-same, one-more, taken}
+use Rattle.order_check.proofs.Lemmas.{[], map, ap, ◌∙◌, arith, map-append, length-map, shown, class_shown, order-same, all-same, keyed-same}
+use Rattle.std.proofs.Common.{◌∷◌}
+use Rattle.order_check.proofs.ClassOrders.Same.{one-more, taken}
 use Rattle.order_check.proofs.class_orders.hierarchy_of.Goals as goal
 
 pub loop-place-preserved : goal.loop-place-preserved

@@ -1,5 +1,6 @@
-use Rattle.std.proofs.Common.{◌≡◌, take, map}
-use Rattle.order_check.specs.ClassOrders.Shown.{shown, class_shown}
+use Rattle.order_check.proofs.Below.{take, map, class_shown}
+use Rattle.std.proofs.Common.{◌≡◌}
+use Rattle.order_check.specs.ClassOrders.Shown.{shown}
 use Rattle.order_check.proofs.class_orders.hierarchy_of.Given as goal
 
 abbrev pub invariant-loop-place : goal.invariant-loop-place

@@ -1,4 +1,5 @@
-use Rattle.std.proofs.Common.{◌≡◌, take}
+use Rattle.order_check.proofs.Below.{take}
+use Rattle.std.proofs.Common.{◌≡◌}
 use Rattle.class_table.specs.Keys.{numbers}
 use Rattle.order_check.proofs.class_orders.keys_of.Given as goal
 

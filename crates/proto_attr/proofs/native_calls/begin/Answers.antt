@@ -1,6 +1,4 @@
-use Rattle.std.proofs.Common.{◌∙◌, sym}
-use Rattle.proto_attr.specs.declared.native_calls.way.Way.TheVariants.{Binds, Wraps}
-use Rattle.proto_attr.proofs.NativeCalls.Steps.{does-begins, does-begins-ok}
+use Rattle.proto_attr.proofs.Lemmas.{◌∙◌, sym, Binds, Wraps, does-begins, does-begins-ok}
 use Rattle.proto_attr.proofs.native_calls.begin.Goals as goal
 
 pub returns-in-Binds-clause-goes : goal.returns-in-Binds-clause-goes

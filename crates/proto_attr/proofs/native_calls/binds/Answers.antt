@@ -1,8 +1,4 @@
-use Rattle.std.proofs.Common.{subst, sym}
-use Rattle.class_world.specs.Reading.{bindings}
-use Rattle.proto_attr.specs.declared.native_calls.way.Way.TheVariants.{Binds}
-use Rattle.proto_attr.specs.NativeCalls.Asks.{Does}
-use Rattle.proto_attr.specs.NativeCalls.Say.{by_way}
+use Rattle.proto_attr.proofs.Lemmas.{subst, sym, bindings, Binds, Does, by_way}
 use Rattle.proto_attr.proofs.native_calls.binds.Goals as goal
 
 pub returns-in-ClassMethod-clause-goes : goal.returns-in-ClassMethod-clause-goes

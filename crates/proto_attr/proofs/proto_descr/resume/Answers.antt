@@ -1,4 +1,4 @@
-use Rattle.class_world.proofs.Growth.{grows-itself}
+use Rattle.proto_attr.proofs.Lemmas.{grows-itself}
 use Rattle.proto_attr.proofs.proto_descr.resume.Goals as goal
 
 pub returns-in-Done-clause-safe : goal.returns-in-Done-clause-safe

@@ -1,6 +1,4 @@
-use Rattle.class_world.specs.Sound.{of_binding, of_each}
-use Rattle.class_world.proofs.Claims.{all-first, all-rest}
-use Rattle.proto_call.specs.ClassMake.Rows.{of_telling}
+use Rattle.proto_call.proofs.Lemmas.{of_binding, of_each, all-first, all-rest, of_telling}
 use Rattle.proto_call.proofs.class_make.resume.Goals as goal
 
 pub hook_bound-requires-clause-telling : goal.hook_bound-requires-clause-telling

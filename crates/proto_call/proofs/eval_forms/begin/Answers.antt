@@ -1,4 +1,4 @@
-use Rattle.class_world.proofs.Claims.{no-nodes}
+use Rattle.proto_call.proofs.Lemmas.{no-nodes}
 use Rattle.proto_call.proofs.eval_forms.begin.Goals as goal
 
 pub next_operand-requires-clause-values : goal.next_operand-requires-clause-values

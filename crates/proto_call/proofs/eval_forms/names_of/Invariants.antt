@@ -1,4 +1,5 @@
-use Rattle.std.proofs.Common.{◌≡◌, ◌++◌, drop, map}
+use Rattle.proto_call.proofs.Below.{drop, map}
+use Rattle.std.proofs.Common.{◌≡◌, ◌++◌}
 use Rattle.proto_call.proofs.eval_forms.names_of.Given as goal
 
 abbrev pub invariant-loop-entry : goal.invariant-loop-entry

@@ -1,6 +1,4 @@
-use Rattle.std.proofs.Common.{sym, ◌∙◌}
-use Rattle.class_world.proofs.Growth.{grows-itself}
-use Rattle.proto_call.proofs.EvalForms.Operands.{goes-on, operand-holds, has-operand, has-values}
+use Rattle.proto_call.proofs.Lemmas.{sym, ◌∙◌, grows-itself, goes-on, operand-holds, has-operand, has-values}
 use Rattle.proto_call.proofs.eval_forms.next_operand.Goals as goal
 
 pub own_step-requires-clause-all : goal.own_step-requires-clause-all

@@ -1,8 +1,5 @@
-use Rattle.std.proofs.Common.{◌∷◌, [], ap, length, arith, length-append}
-use Rattle.std.proofs.lemmas.Bool.{ltb-true}
-use Rattle.class_world.specs.Sound.{Holds}
-use Rattle.class_world.proofs.Claims.{more-nodes}
-use Rattle.proto_call.specs.EvalForms.Rows.{operands, operands_at}
+use Rattle.proto_call.proofs.Lemmas.{[], ap, length, arith, length-append, ltb-true, Holds, more-nodes, operands, operands_at}
+use Rattle.std.proofs.Common.{◌∷◌}
 use Rattle.proto_call.proofs.eval_forms.one_more.Goals as goal
 
 pub next_operand-requires-clause-values : goal.next_operand-requires-clause-values

@@ -1,15 +1,4 @@
-use Rattle.std.specs.Prelude.{IfOk}
-use Rattle.std.proofs.Common.{length, map, ap, sym, subst, ◌∙◌}
-use Rattle.plain_machine.specs.Plain.{PlainWorld}
-use Rattle.class_world.specs.Reading.{Reading, spelled}
-use Rattle.class_world.proofs.Stored.{ok-map}
-use Rattle.proto_call.specs.EvalForms.Words.{one_of, op_say}
-use Rattle.proto_call.specs.EvalForms.Say.{attr_say, set_attr_say, del_attr_say, called_say, if_say, seq_say, raise_say, class_say}
-use Rattle.plain_machine.specs.Args.{two_of}
-use Rattle.proto_call.specs.EvalForms.Rows.{IsOwn, Takes, Continues, operands_at, args_of, keywords_of}
-use Rattle.proto_call.proofs.EvalForms.Operands.{own-closes, own-takes, own-takes-read, says-attr, says-set, says-call, says-raise, attr-name, call-func, says-op, says-del, says-if, says-seq, del-name, if-branches, says-class, class-long, class-names, set-name, one-holds, own-func, own-tuple, own-list}
-use Rattle.proto_call.proofs.EvalForms.DictForm.{no-pairs, own-dict}
-use Rattle.class_world.proofs.Growth.{grows-itself}
+use Rattle.proto_call.proofs.Lemmas.{IfOk, length, map, ap, sym, subst, ◌∙◌, PlainWorld, Reading, spelled, ok-map, one_of, op_say, attr_say, set_attr_say, del_attr_say, called_say, if_say, seq_say, raise_say, class_say, two_of, IsOwn, Takes, Continues, operands_at, args_of, keywords_of, own-closes, own-takes, own-takes-read, says-attr, says-set, says-call, says-raise, attr-name, call-func, says-op, says-del, says-if, says-seq, del-name, if-branches, says-class, class-long, class-names, set-name, one-holds, own-func, own-tuple, own-list, no-pairs, own-dict, grows-itself}
 use Rattle.proto_call.proofs.eval_forms.own_step.Goals as goal
 
 pub returns-in-SetAttr-clause-goes : goal.returns-in-SetAttr-clause-goes

@@ -1,9 +1,4 @@
-use Rattle.std.proofs.Common.{sym, subst}
-use Rattle.py_node.specs.declared.task.Step.TheVariants.{End}
-use Rattle.class_world.specs.Sound.{AllHold}
-use Rattle.proto_call.specs.declared.eval_forms.EvalKept.TheVariants.{Operands}
-use Rattle.proto_call.specs.EvalForms.Rows.{Resumes, of_eval_kept}
-use Rattle.proto_call.proofs.EvalForms.Operands.{ends-with}
+use Rattle.proto_call.proofs.Lemmas.{sym, subst, End, AllHold, Operands, Resumes, of_eval_kept, ends-with}
 use Rattle.proto_call.proofs.eval_forms.resume.Goals as goal
 
 pub returns-in-Err-clause-goes : goal.returns-in-Err-clause-goes

@@ -1,4 +1,4 @@
-use Rattle.class_world.proofs.Growth.{grows-itself}
+use Rattle.proto_call.proofs.Lemmas.{grows-itself}
 use Rattle.proto_call.proofs.object_natives.object_native.Goals as goal
 
 pub returns-in-Hash-clause-safe : goal.returns-in-Hash-clause-safe

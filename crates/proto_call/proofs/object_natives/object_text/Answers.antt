@@ -1,11 +1,5 @@
-use Rattle.std.proofs.Common.{◌≡◌, ◌++◌, codes, false, Some, option_map, string_bytes, sym, ap, ◌∙◌}
-use Rattle.std.specs.Fmt.{digits}
-use Rattle.plain_machine.specs.World.{or_empty}
-use Rattle.plain_machine.specs.ClassText.{name_at}
-use Rattle.class_world.specs.Reading.{plain}
-use Rattle.row_kit.specs.Say.{in_length}
-use Rattle.row_kit.specs.ClassNames.{in_module, module_of}
-use Rattle.proto_call.specs.ObjectNatives.{text_from}
+use Rattle.proto_call.proofs.Lemmas.{codes, false, Some, string_bytes, sym, ap, ◌∙◌, digits, or_empty, name_at, plain, in_length, in_module, module_of, text_from}
+use Rattle.std.proofs.Common.{◌≡◌, ◌++◌, option_map}
 use Rattle.proto_call.proofs.object_natives.object_text.Goals as goal
 
 pub returns-in_ok-text-in-Some-clause-text : goal.returns-in_ok-text-in-Some-clause-text

@@ -1,4 +1,4 @@
-use Rattle.class_world.proofs.Growth.{grows-itself}
+use Rattle.proto_object.proofs.Lemmas.{grows-itself}
 use Rattle.proto_object.proofs.proto_iter.resume.Goals as goal
 
 pub returns-in-AfterNext-clause-safe : goal.returns-in-AfterNext-clause-safe

@@ -1,7 +1,5 @@
-use Rattle.std.proofs.Common.{ℕ, zero, suc, ◌<◌, List, ◌∷◌, length, get_or, arith}
-use Rattle.py_node.specs.declared.refs.PyObjectRef.{PyObjectRef}
-use Rattle.class_world.specs.Held.{Held}
-use Rattle.class_world.specs.Sound.{IsNode, AreNodes, Holds}
+use Rattle.row_kit.proofs.Lemmas.{ℕ, zero, suc, List, length, get_or, arith, PyObjectRef, Held, IsNode, AreNodes, Holds}
+use Rattle.std.proofs.Common.{◌<◌, ◌∷◌}
 use Rattle.row_kit.proofs.called.bound.Goals as goal
 
 first-node : (w : Held) (r : PyObjectRef) (rs : List PyObjectRef) → Holds w (IsNode r) → Holds w (AreNodes rs) → Holds w (AreNodes (r ∷ rs))

@@ -1,6 +1,4 @@
-use Rattle.std.proofs.Common.{ap, sym, ◌∙◌}
-use Rattle.class_world.specs.Reading.{bindings}
-use Rattle.row_kit.specs.Called.{call_native}
+use Rattle.row_kit.proofs.Lemmas.{ap, sym, ◌∙◌, bindings, call_native}
 use Rattle.row_kit.proofs.called.native_call.Goals as goal
 
 pub returns-clause-task : goal.returns-clause-task

@@ -1,10 +1,5 @@
-use Rattle.std.proofs.Common.{◌≡◌, ◌∷◌, ◌++◌, [], suc, ◌+◌, ap, arith, refl, ◌∙◌, drop, length-append}
-use Rattle.class_world.specs.Sound.{IsName, IsNode}
-use Rattle.class_world.specs.Reading.{bindings, plain}
-use Rattle.class_world.proofs.Growth.{grows-itself, grows-on}
-use Rattle.class_world.proofs.Claims.{no-nodes}
-use Rattle.row_kit.specs.ClassAttributes.{keyed}
-use Rattle.row_kit.proofs.ObjectsKeyed.{entry-holds, drop-got, keyed-next, pairs-push, pairs-grow, no-keys-yet, spelled-next, keys-differ}
+use Rattle.row_kit.proofs.Lemmas.{[], suc, ap, arith, refl, ◌∙◌, length-append, IsName, IsNode, bindings, plain, grows-itself, grows-on, no-nodes, keyed, entry-holds, drop-got, keyed-next, pairs-push, pairs-grow, no-keys-yet, spelled-next, keys-differ}
+use Rattle.std.proofs.Common.{◌≡◌, ◌∷◌, ◌++◌, ◌+◌, drop}
 use Rattle.row_kit.proofs.class_attributes.key_all.Goals as goal
 
 pub loop-i-init : goal.loop-i-init

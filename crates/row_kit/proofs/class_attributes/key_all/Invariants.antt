@@ -1,7 +1,5 @@
-use Rattle.std.proofs.Common.{◌≡◌, [], drop, length}
-use Rattle.class_world.specs.Reading.{Reading, Reads, bindings, plain}
-use Rattle.class_world.specs.Sound.{Grows}
-use Rattle.row_kit.specs.ClassAttributes.{keyed}
+use Rattle.row_kit.proofs.Below.{[], drop, length, Reading, Reads, bindings, plain, Grows, keyed}
+use Rattle.std.proofs.Common.{◌≡◌}
 use Rattle.row_kit.proofs.ObjectsKeyed.{ArePairs, AreSpelled}
 use Rattle.row_kit.proofs.class_attributes.key_all.Given as goal
 

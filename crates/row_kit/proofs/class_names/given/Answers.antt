@@ -1,7 +1,4 @@
-use Rattle.std.proofs.Common.{◌∙◌}
-use Rattle.class_world.specs.Reading.{plain}
-use Rattle.py_node.specs.Known.{known_text}
-use Rattle.row_kit.proofs.ObjectsNamed.{given-some}
+use Rattle.row_kit.proofs.Lemmas.{◌∙◌, plain, known_text, given-some}
 use Rattle.row_kit.proofs.class_names.given.Goals as goal
 
 pub returns-else-is_getset-clause-value : goal.returns-else-is_getset-clause-value

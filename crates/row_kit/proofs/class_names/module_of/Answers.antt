@@ -1,7 +1,5 @@
-use Rattle.std.proofs.Common.{◌≡◌, ap, ◌∙◌, option_map, string_bytes}
-use Rattle.class_world.specs.Reading.{Reading, Reads, plain}
-use Rattle.class_world.proofs.Stored.{ok-map}
-use Rattle.row_kit.specs.ClassNames.{builtins, module_of, text_or}
+use Rattle.row_kit.proofs.Lemmas.{ap, ◌∙◌, option_map, Reading, Reads, plain, ok-map, builtins, module_of, text_or}
+use Rattle.std.proofs.Common.{◌≡◌, string_bytes}
 use Rattle.row_kit.proofs.class_names.module_of.Goals as goal
 
 pub returns : goal.returns

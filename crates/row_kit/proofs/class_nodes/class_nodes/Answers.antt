@@ -1,8 +1,5 @@
-use Rattle.std.proofs.Common.{add-one, refl, ap, map, take, ◌∙◌, ◌++◌, ◌∷◌, [], arith}
-use Rattle.py_node.specs.declared.refs.PyTypeRef.{PyTypeRef}
-use Rattle.plain_machine.specs.World.{ref}
-use Rattle.class_world.proofs.Claims.{no-nodes, more-nodes}
-use Rattle.row_kit.proofs.ObjectsListed.{nodes-next, nodes-end, class-among}
+use Rattle.row_kit.proofs.Lemmas.{add-one, refl, ap, map, ◌∙◌, [], arith, PyTypeRef, ref, no-nodes, more-nodes, nodes-next, nodes-end, class-among}
+use Rattle.std.proofs.Common.{take, ◌++◌, ◌∷◌}
 use Rattle.row_kit.proofs.class_nodes.class_nodes.Goals as goal
 
 pub loop-class-init : goal.loop-class-init

@@ -1,6 +1,5 @@
-use Rattle.std.proofs.Common.{◌≡◌, map, take}
-use Rattle.plain_machine.specs.World.{ref}
-use Rattle.class_world.specs.Sound.{AreNodes, Holds}
+use Rattle.row_kit.proofs.Below.{map, take, ref, AreNodes, Holds}
+use Rattle.std.proofs.Common.{◌≡◌}
 use Rattle.row_kit.proofs.class_nodes.class_nodes.Given as goal
 
 abbrev pub invariant-loop-class : goal.invariant-loop-class

@@ -1,9 +1,4 @@
-use Rattle.std.proofs.Common.{rules}
-use Rattle.std.specs.Int.{w128}
-use Rattle.std.specs.Int.RustNames.{FitsSigned}
-use Rattle.std.proofs.lemmas.Int.{to_z-of_z}
-use Rattle.py_node.specs.BuiltIns.{place_of}
-use Rattle.row_kit.proofs.Made.{int-ends}
+use Rattle.row_kit.proofs.Lemmas.{rules, w128, FitsSigned, to_z-of_z, place_of, int-ends}
 use Rattle.row_kit.proofs.give.new_int.Goals as goal
 
 pub returns-in_ok-node-in-Ok-clause-ends : goal.returns-in_ok-node-in-Ok-clause-ends

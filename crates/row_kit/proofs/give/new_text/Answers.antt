@@ -1,9 +1,4 @@
-use Rattle.std.proofs.Common.{refl}
-use Rattle.std.specs.Prelude.{Ok, string_bytes}
-use Rattle.py_node.specs.BuiltIns.{place_of}
-use Rattle.plain_machine.specs.Plain.{AText}
-use Rattle.row_kit.specs.Say.{text_made}
-use Rattle.row_kit.proofs.Made.{made-ends}
+use Rattle.row_kit.proofs.Lemmas.{refl, Ok, string_bytes, place_of, AText, text_made, made-ends}
 use Rattle.row_kit.proofs.give.new_text.Goals as goal
 
 pub returns-clause-ends : goal.returns-clause-ends

@@ -1,14 +1,5 @@
-use Rattle.std.proofs.Common.{◌≡◌, [], refl, sym, ap, ◌∙◌, subst}
-use Rattle.class_world.specs.Keyed.{of_entries, of_pairs}
-use Rattle.class_world.specs.Reading.{plain}
-use Rattle.class_world.specs.Sound.{AllHold, AreNodes}
-use Rattle.class_world.proofs.Claims.{no-nodes, more-nodes, all-grow}
-use Rattle.class_world.proofs.Growth.{grows-itself, grows-on}
-use Rattle.class_world.proofs.KeyEntries.{pair-holds, keys-can}
-use Rattle.row_kit.specs.GiveContainers.{list_made, pairs_made}
-use Rattle.row_kit.specs.TakeContainers.{entries_at}
-use Rattle.row_kit.proofs.ContainersEnds.{then-if}
-use Rattle.row_kit.proofs.ContainersLoops.{pair-more, pairs-all}
+use Rattle.row_kit.proofs.Lemmas.{[], refl, sym, ap, ◌∙◌, subst, of_entries, of_pairs, plain, AllHold, AreNodes, no-nodes, more-nodes, all-grow, grows-itself, grows-on, pair-holds, keys-can, list_made, pairs_made, entries_at, then-if, pair-more, pairs-all}
+use Rattle.std.proofs.Common.{◌≡◌}
 use Rattle.row_kit.proofs.give_containers.new_pairs.Goals as goal
 
 pub loop-entry-init : goal.loop-entry-init

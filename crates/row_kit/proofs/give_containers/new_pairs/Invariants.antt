@@ -1,7 +1,5 @@
-use Rattle.std.proofs.Common.{◌≡◌, [], drop}
-use Rattle.class_world.specs.Reading.{Reading, Reads, plain}
-use Rattle.class_world.specs.Sound.{AreNodes, Grows, Holds}
-use Rattle.row_kit.specs.GiveContainers.{pairs_made}
+use Rattle.row_kit.proofs.Below.{[], drop, Reading, Reads, plain, AreNodes, Grows, Holds, pairs_made}
+use Rattle.std.proofs.Common.{◌≡◌}
 use Rattle.row_kit.proofs.give_containers.new_pairs.Given as goal
 
 abbrev pub invariant-loop-entry : goal.invariant-loop-entry

@@ -1,5 +1,5 @@
-use Rattle.std.proofs.Common.{◌≡◌, drop}
-use Rattle.row_kit.specs.Questions.{has_null}
+use Rattle.row_kit.proofs.Below.{drop, has_null}
+use Rattle.std.proofs.Common.{◌≡◌}
 use Rattle.row_kit.proofs.questions.has_null.Given as goal
 
 abbrev pub invariant-loop-byte : goal.invariant-loop-byte

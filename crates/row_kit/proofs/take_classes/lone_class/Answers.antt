@@ -1,7 +1,4 @@
-use Rattle.std.proofs.Common.{◌∙◌}
-use Rattle.std.proofs.lemmas.Result.{err_from_is_err_and}
-use Rattle.plain_machine.specs.Takes.{with_one}
-use Rattle.class_world.specs.Reading.{plain, bindings}
+use Rattle.row_kit.proofs.Lemmas.{◌∙◌, err_from_is_err_and, with_one, plain, bindings}
 use Rattle.row_kit.proofs.take_classes.lone_class.Goals as goal
 
 pub returns-in_err-_object-clause-refused : goal.returns-in_err-_object-clause-refused

@@ -1,10 +1,4 @@
-use Rattle.std.proofs.Common.{Some, sym, ap, ◌∙◌, subst}
-use Rattle.plain_machine.specs.Dicts.{entries_in}
-use Rattle.class_world.specs.Keyed.{of_entries}
-use Rattle.class_world.specs.Reading.{datum}
-use Rattle.class_world.specs.Sound.{AllHold, of_payload}
-use Rattle.class_world.proofs.DictChanges.{none-hold}
-use Rattle.row_kit.proofs.ContainersPayloads.{no-entries}
+use Rattle.row_kit.proofs.Lemmas.{Some, sym, ap, ◌∙◌, subst, entries_in, of_entries, datum, AllHold, of_payload, none-hold, no-entries}
 use Rattle.row_kit.proofs.take_containers.entries.Goals as goal
 
 pub returns-in-Dict-clause-same : goal.returns-in-Dict-clause-same

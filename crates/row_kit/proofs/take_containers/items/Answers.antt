@@ -1,7 +1,4 @@
-use Rattle.std.proofs.Common.{ap, ◌∙◌}
-use Rattle.class_world.proofs.Claims.{no-nodes}
-use Rattle.class_world.specs.Listed.{items_in}
-use Rattle.row_kit.proofs.ContainersPayloads.{no-items}
+use Rattle.row_kit.proofs.Lemmas.{ap, ◌∙◌, no-nodes, items_in, no-items}
 use Rattle.row_kit.proofs.take_containers.items.Goals as goal
 
 pub returns-in_default-clause-same : goal.returns-in_default-clause-same

@@ -1,4 +1,4 @@
-use Rattle.vm_calls.proofs.AnswerKinds.Rows.{answered}
+use Rattle.vm_calls.proofs.Lemmas.{answered}
 use Rattle.vm_calls.proofs.answer_kinds.answers_are_of_their_kinds.Goals as goal
 
 pub returns : goal.returns

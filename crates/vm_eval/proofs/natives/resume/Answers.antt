@@ -1,18 +1,6 @@
-use Rattle.native_containers.specs.NativeItems.Say.{item_job_say}
-use Rattle.native_containers.specs.NativeItems.Rows.{item_stands}
-use Rattle.native_containers.specs.NativeParts.Say.{parts_job_say}
-use Rattle.native_containers.specs.NativeParts.Rows.{parts_stands}
-use Rattle.native_containers.specs.NativeCompare.Say.{compared_job_say}
-use Rattle.native_containers.specs.NativeCompare.Rows.{compared_stands}
-use Rattle.proto_ops.specs.NativeRepeats.Say.{repeat_job_say}
-use Rattle.proto_ops.specs.NativeRepeats.Rows.{repeat_stands}
-use Rattle.proto_attr.specs.NativeDetails.Say.{detail_job_say}
-use Rattle.proto_attr.specs.NativeDetails.Rows.{detail_stands}
-use Rattle.proto_attr.specs.NativeCalls.Say.{asking_job_say}
-use Rattle.proto_attr.specs.NativeCalls.Asks.{asking_stands}
+use Rattle.vm_eval.proofs.Lemmas.{item_job_say, item_stands, parts_job_say, parts_stands, compared_job_say, compared_stands, repeat_job_say, repeat_stands, detail_job_say, detail_stands, asking_job_say, asking_stands, ForParts, ForComparisons, ForRepeats, ForDetails, ForCalls, family-resumes, items-family, parts-family, comparisons-family, repeats-family, details-family, calls-family}
 use Rattle.vm_eval.specs.declared.natives.family.Family.TheVariants as family
-use Rattle.vm_eval.specs.declared.natives.NativesKept.TheVariants.{ForItems, ForParts, ForComparisons, ForRepeats, ForDetails, ForCalls}
-use Rattle.vm_eval.proofs.OfNatives.Families.{family-resumes, items-family, parts-family, comparisons-family, repeats-family, details-family, calls-family}
+use Rattle.vm_eval.specs.declared.natives.NativesKept.TheVariants.{ForItems}
 use Rattle.vm_eval.proofs.natives.resume.Goals as goal
 
 pub returns-in_ok-step-in-ForItems-clause-goes : goal.returns-in_ok-step-in-ForItems-clause-goes

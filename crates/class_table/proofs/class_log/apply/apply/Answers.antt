@@ -1,11 +1,5 @@
-use Rattle.std.proofs.Common.{◌≡◌, List, sym, subst}
-use Rattle.py_node.specs.declared.refs.PyTypeRef.{PyTypeRef}
-use Rattle.class_table.specs.Keys.{numbers}
-use Rattle.class_table.specs.Rebase.{told, refused_rebase}
-use Rattle.class_table.specs.Refused.{WithMemory}
-use Rattle.class_table.specs.declared.class_log.change.ClassChange.{ClassChange}
-use Rattle.class_table.specs.ClassLog.Change.{change_of}
-use Rattle.class_table.specs.ClassLog.Refused.{refused}
+use Rattle.class_table.proofs.Lemmas.{List, sym, subst, PyTypeRef, numbers, told, refused_rebase, WithMemory, ClassChange, change_of, refused}
+use Rattle.std.proofs.Common.{◌≡◌}
 use Rattle.class_table.proofs.class_log.apply.apply.Goals as goal
 
 pub returns-in-SetBases-clause-refused : goal.returns-in-SetBases-clause-refused

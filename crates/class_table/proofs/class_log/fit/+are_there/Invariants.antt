@@ -1,4 +1,4 @@
-use Rattle.std.proofs.Common.{length}
+use Rattle.class_table.proofs.Below.{length}
 use Rattle.class_table.proofs.class_log.fit.+are_there.Given as goal
 
 abbrev pub decreases-are_there : goal.decreases-are_there

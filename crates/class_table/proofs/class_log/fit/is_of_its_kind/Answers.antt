@@ -1,6 +1,4 @@
-use Rattle.std.proofs.Common.{refl, sym, ◌∙◌}
-use Rattle.class_table.specs.ClassLog.Change.{made_of}
-use Rattle.class_table.proofs.ClassLog.Lone.{kind-static, no-slots}
+use Rattle.class_table.proofs.Lemmas.{refl, sym, ◌∙◌, made_of, kind-static, no-slots}
 use Rattle.class_table.proofs.class_log.fit.is_of_its_kind.Goals as goal
 
 pub returns-then-is_none : goal.returns-then-is_none

@@ -1,4 +1,4 @@
-use Rattle.class_table.proofs.ClassLog.Logged.{follows, keeps-begins}
+use Rattle.class_table.proofs.Lemmas.{follows, keeps-begins}
 use Rattle.class_table.proofs.class_log.laws.a_log_can_be_followed.Goals as goal
 
 pub returns-clause-follows : goal.returns-clause-follows

@@ -1,5 +1,4 @@
-use Rattle.std.proofs.Common.{ap}
-use Rattle.class_table.specs.ClassLog.Refused.{by_cause}
+use Rattle.class_table.proofs.Lemmas.{ap, by_cause}
 use Rattle.class_table.proofs.class_log.log.out_of_memory.Goals as goal
 
 pub returns-in-Ok-clause-told : goal.returns-in-Ok-clause-told

@@ -1,10 +1,6 @@
-use Rattle.std.proofs.Common.{◌+◌, drop, sym, ap, ◌∙◌, arith}
+use Rattle.class_table.proofs.Lemmas.{drop, sym, ap, ◌∙◌, arith, or_left, breaks_precedence, rows, heads, filled-at, breaks-at}
+use Rattle.std.proofs.Common.{◌+◌}
 use Rattle.std.specs.Prelude.{◌||◌}
-use Rattle.std.proofs.lemmas.Bool.{or_left}
-use Rattle.class_model.specs.Change.{breaks_precedence}
-use Rattle.class_table.specs.MroMerge.Lists.{rows}
-use Rattle.class_table.specs.MroMerge.Merge.{heads}
-use Rattle.class_table.proofs.MroMerge.Heads.{filled-at, breaks-at}
 use Rattle.class_table.proofs.mro_merge.laws.breaks_precedence.Goals as goal
 
 pub index-requires : goal.index-requires

@@ -1,7 +1,5 @@
-use Rattle.std.proofs.Common.{◌≡◌, drop}
-use Rattle.class_model.specs.Change.{breaks_precedence}
-use Rattle.class_table.specs.MroMerge.Lists.{rows}
-use Rattle.class_table.specs.MroMerge.Merge.{heads}
+use Rattle.class_table.proofs.Below.{drop, breaks_precedence, rows, heads}
+use Rattle.std.proofs.Common.{◌≡◌}
 use Rattle.class_table.proofs.mro_merge.laws.breaks_precedence.Given as goal
 
 abbrev pub invariant-loop-i : goal.invariant-loop-i

@@ -1,6 +1,6 @@
-use Rattle.std.proofs.Common.{◌≡◌, [], take, drop}
+use Rattle.class_table.proofs.Below.{[], take, drop, repeat_past}
+use Rattle.std.proofs.Common.{◌≡◌}
 use Rattle.class_table.specs.MroMerge.Lists.{numbers}
-use Rattle.class_table.specs.MroMerge.Steps.{repeat_past}
 use Rattle.class_table.proofs.mro_merge.laws.first_repeat.Given as goal
 
 abbrev pub invariant-loop-i : goal.invariant-loop-i

@@ -1,14 +1,6 @@
-use Rattle.std.proofs.Common.{◌≡◌, false, List, length, arith, Option, Some, None, refl, sym, ap, ◌∙◌}
-use Rattle.std.specs.Prelude.{option_map}
-use Rattle.std.specs.Global.{Vec}
-use Rattle.py_node.specs.declared.refs.PyTypeRef.{PyTypeRef}
-use Rattle.class_model.specs.Change.{breaks_precedence}
-use Rattle.class_table.specs.MroMerge.Lists.{numbers, rows}
-use Rattle.class_table.specs.MroMerge.Merge.{heads, with_heads, IsLeastMerge, IsConflict}
-use Rattle.class_table.specs.MroMerge.Steps.{merged}
-use Rattle.class_table.proofs.MroMerge.Linearised.{least-merge, none-merge}
-use Rattle.class_table.proofs.MroMerge.Alone.{alone-of}
-use Rattle.class_table.proofs.MroMerge.Classes.{rows-heads}
+use Rattle.class_table.proofs.Lemmas.{false, List, length, arith, Option, Some, None, refl, sym, ap, ◌∙◌, option_map, Vec, PyTypeRef, breaks_precedence, rows, heads, with_heads, IsLeastMerge, IsConflict, merged, least-merge, none-merge, alone-of, rows-heads}
+use Rattle.std.proofs.Common.{◌≡◌}
+use Rattle.class_table.specs.MroMerge.Lists.{numbers}
 use Rattle.class_table.proofs.mro_merge.laws.linearise_mro.Goals as goal
 
 least-of : (lists all : List (Vec PyTypeRef)) (line : Vec PyTypeRef) (r : Option (Vec PyTypeRef)) → rows all ≡ with_heads (rows lists) → r ≡ Some line → option_map (λ (v : Vec PyTypeRef). numbers v.items) r ≡ merged (rows all) → IsLeastMerge (with_heads (rows lists)) (numbers line.items)

@@ -1,12 +1,7 @@
-use Rattle.std.proofs.Common.{◌≡◌, sym, subst, ◌∙◌}
-use Rattle.py_node.specs.declared.refs.PyTypeRef.{PyTypeRef}
-use Rattle.class_table.specs.MroMerge.Lists.{numbers, rows}
-use Rattle.class_table.specs.MroMerge.Merge.{IsFirstRepeat}
-use Rattle.class_table.proofs.MroMerge.Classes.{same-class}
-use Rattle.class_table.proofs.MroMerge.Repeats.{first-repeat, repeat-first, none-repeats, repeat-differs}
-use Rattle.class_table.proofs.MroMerge.Precedence.{repeat-none}
-use Rattle.class_table.proofs.MroMerge.Bases.{lines-bases}
-use Rattle.class_table.proofs.MroMerge.Resolved.{order-of, duplicate-of, precedence-of, conflict-of, none-of, cause-of}
+use Rattle.class_table.proofs.Lemmas.{sym, subst, ◌∙◌, PyTypeRef, rows, IsFirstRepeat, same-class, first-repeat, repeat-first, none-repeats, repeat-differs, repeat-none, lines-bases, order-of, duplicate-of, precedence-of, conflict-of, cause-of}
+use Rattle.std.proofs.Common.{◌≡◌}
+use Rattle.class_table.specs.MroMerge.Lists.{numbers}
+use Rattle.class_table.proofs.MroMerge.Resolved.{none-of}
 use Rattle.class_table.proofs.mro_merge.laws.resolve_mro.Goals as goal
 
 pub linearise_mro-requires : goal.linearise_mro-requires

@@ -1,6 +1,5 @@
-use Rattle.std.proofs.Common.{◌≡◌, drop}
-use Rattle.class_table.specs.MroMerge.Steps.{are_empty}
-use Rattle.class_table.specs.MroMerge.Lists.{rows}
+use Rattle.class_table.proofs.Below.{drop, are_empty, rows}
+use Rattle.std.proofs.Common.{◌≡◌}
 use Rattle.class_table.proofs.mro_merge.merge.are_empty.Given as goal
 
 abbrev pub invariant-loop-list : goal.invariant-loop-list

@@ -1,7 +1,6 @@
-use Rattle.std.proofs.Common.{◌<◌, length, sym, ap, ◌∙◌, arith}
-use Rattle.std.proofs.lemmas.Bool.{eqb-true, eqb-false}
+use Rattle.class_table.proofs.Lemmas.{length, sym, ap, ◌∙◌, arith, eqb-true, eqb-false, without-first, without-other, without-empty}
+use Rattle.std.proofs.Common.{◌<◌}
 use Rattle.class_table.specs.MroMerge.Lists.{numbers}
-use Rattle.class_table.proofs.MroMerge.Classes.{without-first, without-other, without-empty}
 use Rattle.class_table.proofs.mro_merge.merge.behead.Goals as goal
 use Rattle.class_table.proofs.mro_merge.merge.behead.Goals.{else-not-is_empty-via-then-not-is_empty+else-index-class, else-not-is_empty-via-else-not-is_empty}
 

@@ -1,8 +1,5 @@
-use Rattle.std.proofs.Common.{sym, ap, ◌∙◌, arith}
-use Rattle.class_model.specs.Order.{has}
-use Rattle.class_model.specs.Class.{past_first}
+use Rattle.class_table.proofs.Lemmas.{sym, ap, ◌∙◌, arith, has, past_first, past-at}
 use Rattle.class_table.specs.MroMerge.Lists.{numbers}
-use Rattle.class_table.proofs.MroMerge.Blocked.{past-at}
 use Rattle.class_table.proofs.mro_merge.merge.blocked_at.Goals as goal
 
 pub returns-then-is_past : goal.returns-then-is_past

@@ -1,6 +1,5 @@
-use Rattle.std.proofs.Common.{◌≡◌, drop}
-use Rattle.class_table.specs.MroMerge.Steps.{first_free}
-use Rattle.class_table.specs.MroMerge.Lists.{rows}
+use Rattle.class_table.proofs.Below.{drop, first_free, rows}
+use Rattle.std.proofs.Common.{◌≡◌}
 use Rattle.class_table.proofs.mro_merge.merge.first_free.Given as goal
 
 abbrev pub invariant-loop-place : goal.invariant-loop-place

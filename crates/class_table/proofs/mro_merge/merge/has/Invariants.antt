@@ -1,5 +1,5 @@
-use Rattle.std.proofs.Common.{◌≡◌, drop}
-use Rattle.class_model.specs.Order.{has}
+use Rattle.class_table.proofs.Below.{drop, has}
+use Rattle.std.proofs.Common.{◌≡◌}
 use Rattle.class_table.specs.MroMerge.Lists.{numbers}
 use Rattle.class_table.proofs.mro_merge.merge.has.Given as goal
 

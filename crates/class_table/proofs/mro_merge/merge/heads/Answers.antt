@@ -1,10 +1,6 @@
-use Rattle.std.proofs.Common.{◌+◌, drop, sym, ap, ◌∙◌, arith}
-use Rattle.std.specs.Global.{Vec}
-use Rattle.py_node.specs.declared.refs.PyTypeRef.{PyTypeRef}
-use Rattle.class_model.specs.Order.{has, unique}
-use Rattle.class_table.specs.MroMerge.Lists.{numbers, rows}
-use Rattle.class_table.specs.MroMerge.Merge.{heads}
-use Rattle.class_table.proofs.MroMerge.Heads.{collected, past-nil, filled-at, kept-at, more-at}
+use Rattle.class_table.proofs.Lemmas.{drop, sym, ap, ◌∙◌, arith, Vec, PyTypeRef, has, unique, rows, heads, collected, past-nil, filled-at, kept-at, more-at}
+use Rattle.std.proofs.Common.{◌+◌}
+use Rattle.class_table.specs.MroMerge.Lists.{numbers}
 use Rattle.class_table.proofs.mro_merge.merge.heads.Goals as goal
 use Rattle.class_table.proofs.mro_merge.merge.heads.Goals.{then-not-has+in_ok-push, else-not-has}
 

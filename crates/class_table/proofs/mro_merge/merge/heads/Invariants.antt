@@ -1,7 +1,5 @@
-use Rattle.std.proofs.Common.{◌≡◌, drop}
-use Rattle.class_model.specs.Order.{unique}
-use Rattle.class_table.specs.MroMerge.Lists.{rows}
-use Rattle.class_table.specs.MroMerge.Merge.{heads}
+use Rattle.class_table.proofs.Below.{drop, unique, rows, heads}
+use Rattle.std.proofs.Common.{◌≡◌}
 use Rattle.class_table.proofs.MroMerge.Heads.{collected}
 use Rattle.class_table.proofs.mro_merge.merge.heads.Given as goal
 

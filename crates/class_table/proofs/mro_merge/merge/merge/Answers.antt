@@ -1,12 +1,6 @@
-use Rattle.std.proofs.Common.{◌≡◌, [], ◌∷◌, List, ◌++◌, Some, sym, ap, ◌∙◌, append-nil}
-use Rattle.std.specs.Prelude.{option_map}
-use Rattle.std.specs.Global.{Vec}
-use Rattle.std.proofs.lemmas.List.{map-append}
-use Rattle.class_table.specs.MroMerge.Steps.{are_empty, first_free, struck, merged}
-use Rattle.class_table.proofs.MroMerge.Steps.{first-past, merged-empty, merged-stuck, merged-step, struck-fewer}
-use Rattle.py_node.specs.declared.refs.PyTypeRef.{PyTypeRef}
-use Rattle.class_table.specs.MroMerge.Lists.{numbers, rows}
-use Rattle.class_table.proofs.MroMerge.Mapped.{put_before}
+use Rattle.class_table.proofs.Lemmas.{[], List, Some, sym, ap, ◌∙◌, append-nil, option_map, Vec, map-append, are_empty, first_free, struck, merged, first-past, merged-empty, merged-stuck, merged-step, struck-fewer, PyTypeRef, rows, put_before}
+use Rattle.std.proofs.Common.{◌≡◌, ◌∷◌, ◌++◌}
+use Rattle.class_table.specs.MroMerge.Lists.{numbers}
 use Rattle.class_table.proofs.mro_merge.merge.merge.Goals as goal
 
 head_at : (xs ys : List (Vec PyTypeRef)) → xs ≡ ys → first_free (rows xs) (rows xs) ≡ first_free (rows ys) (rows ys)

@@ -1,8 +1,6 @@
-use Rattle.std.proofs.Common.{◌≡◌, ◌++◌, length}
-use Rattle.std.specs.Prelude.{option_map}
-use Rattle.class_table.specs.MroMerge.Lists.{numbers, rows}
-use Rattle.class_table.specs.MroMerge.Merge.{members}
-use Rattle.class_table.specs.MroMerge.Steps.{merged}
+use Rattle.class_table.proofs.Below.{length, option_map, rows, members, merged}
+use Rattle.std.proofs.Common.{◌≡◌, ◌++◌}
+use Rattle.class_table.specs.MroMerge.Lists.{numbers}
 use Rattle.class_table.proofs.mro_merge.merge.merge.Given as goal
 
 abbrev pub invariant-loop-lists : goal.invariant-loop-lists

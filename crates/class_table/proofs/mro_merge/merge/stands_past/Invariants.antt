@@ -1,6 +1,5 @@
-use Rattle.std.proofs.Common.{◌≡◌, drop}
-use Rattle.class_model.specs.Change.{stands_past}
-use Rattle.class_table.specs.MroMerge.Lists.{rows}
+use Rattle.class_table.proofs.Below.{drop, stands_past, rows}
+use Rattle.std.proofs.Common.{◌≡◌}
 use Rattle.class_table.proofs.mro_merge.merge.stands_past.Given as goal
 
 abbrev pub invariant-loop-list : goal.invariant-loop-list

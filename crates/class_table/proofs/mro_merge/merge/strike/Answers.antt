@@ -1,6 +1,5 @@
-use Rattle.std.proofs.Common.{◌<◌, length, arith}
-use Rattle.class_model.specs.Order.{without}
-use Rattle.class_table.proofs.MroMerge.Mapped.{rows-step, free-at}
+use Rattle.class_table.proofs.Lemmas.{length, arith, without, rows-step, free-at}
+use Rattle.std.proofs.Common.{◌<◌}
 use Rattle.class_table.proofs.mro_merge.merge.strike.Goals as goal
 
 pub loop-i-preserved : goal.loop-i-preserved

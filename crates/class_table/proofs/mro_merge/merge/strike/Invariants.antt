@@ -1,6 +1,5 @@
-use Rattle.std.proofs.Common.{◌≡◌, ◌++◌, map, take, drop}
-use Rattle.class_model.specs.Order.{without}
-use Rattle.class_table.specs.MroMerge.Lists.{rows}
+use Rattle.class_table.proofs.Below.{map, take, drop, without, rows}
+use Rattle.std.proofs.Common.{◌≡◌, ◌++◌}
 use Rattle.class_table.proofs.mro_merge.merge.strike.Given as goal
 
 abbrev pub invariant-loop-i : goal.invariant-loop-i

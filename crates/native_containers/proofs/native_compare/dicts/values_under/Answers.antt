@@ -1,8 +1,4 @@
-use Rattle.std.proofs.Common.{◌∙◌}
-use Rattle.class_world.specs.Reading.{plain}
-use Rattle.class_world.proofs.Claims.{no-nodes, more-nodes}
-use Rattle.class_world.proofs.KeyEntries.{pair-holds, keys-can}
-use Rattle.native_containers.proofs.NativeCompare.Values.{value-more, values-first}
+use Rattle.native_containers.proofs.Lemmas.{◌∙◌, plain, no-nodes, more-nodes, pair-holds, keys-can, value-more, values-first}
 use Rattle.native_containers.proofs.native_compare.dicts.values_under.Goals as goal
 
 pub loop-entry-init : goal.loop-entry-init

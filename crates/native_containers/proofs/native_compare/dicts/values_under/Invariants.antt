@@ -1,8 +1,5 @@
-use Rattle.std.proofs.Common.{◌≡◌, drop}
-use Rattle.class_world.specs.Reading.{Reading, plain}
-use Rattle.class_world.specs.Sound.{AreNodes, Holds}
-use Rattle.row_kit.specs.GiveContainers.{keys_of}
-use Rattle.native_containers.specs.NativeCompare.Containers.{values_under}
+use Rattle.native_containers.proofs.Below.{drop, Reading, plain, AreNodes, Holds, keys_of, values_under}
+use Rattle.std.proofs.Common.{◌≡◌}
 use Rattle.native_containers.proofs.NativeCompare.Values.{after, values_left}
 use Rattle.native_containers.proofs.native_compare.dicts.values_under.Given as goal
 

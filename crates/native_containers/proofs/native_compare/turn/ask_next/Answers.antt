@@ -1,7 +1,5 @@
-use Rattle.std.proofs.Common.{◌≡◌, ◌<◌, ◌≤◌, ◌+◌, ◌∷◌, ◌∙◌, length, refl, sym, ap, arith}
-use Rattle.native_containers.specs.declared.native_compare.ComparedKept.{ComparedKept}
-use Rattle.native_containers.specs.NativeCompare.Rows.{left}
-use Rattle.native_containers.proofs.NativeCompare.Turns.{asks-none, asks-two, left-here, none-first, none-second}
+use Rattle.native_containers.proofs.Lemmas.{◌∙◌, length, refl, sym, ap, arith, ComparedKept, left, asks-none, asks-two, left-here, none-first, none-second}
+use Rattle.std.proofs.Common.{◌≡◌, ◌<◌, ◌≤◌, ◌+◌, ◌∷◌}
 use Rattle.native_containers.proofs.native_compare.turn.ask_next.Goals as goal
 use Rattle.native_containers.proofs.native_compare.turn.ask_next.Goals.{else-next-len-via-then-next-len+else-next-len-2, else-next-len-via-else-next-len}
 

@@ -1,7 +1,5 @@
-use Rattle.std.proofs.Common.{◌≡◌, ◌∙◌, length, refl, sym, ap, arith}
-use Rattle.native_containers.specs.declared.native_compare.ComparedKept.{ComparedKept}
-use Rattle.native_containers.specs.NativeCompare.Containers.{turns_of}
-use Rattle.native_containers.proofs.NativeCompare.Turns.{compares-turns}
+use Rattle.native_containers.proofs.Lemmas.{◌∙◌, length, refl, sym, ap, arith, ComparedKept, turns_of, compares-turns}
+use Rattle.std.proofs.Common.{◌≡◌}
 use Rattle.native_containers.proofs.native_compare.turn.compare.Goals as goal
 
 pub returns-in-Each-clause-goes : goal.returns-in-Each-clause-goes

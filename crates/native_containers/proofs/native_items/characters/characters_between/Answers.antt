@@ -1,9 +1,4 @@
-use Rattle.std.proofs.Common.{◌∙◌, sym, ap, subst, take, drop, Ok}
-use Rattle.std.specs.Iterator.Adapters.{skip_steps}
-use Rattle.std.specs.Str.{chars, encode_utf8_all}
-use Rattle.std.proofs.iter.TextItems.{spells}
-use Rattle.std.proofs.lemmas.Iterator.{YieldsList, YieldsList-from_chars, YieldsList-from_take, text_from_collect}
-use Rattle.std.proofs.lemmas.Iterator.Adapters.{YieldsList-from_skip}
+use Rattle.native_containers.proofs.Lemmas.{◌∙◌, sym, ap, subst, take, drop, Ok, skip_steps, chars, encode_utf8_all, spells, YieldsList, YieldsList-from_chars, YieldsList-from_take, text_from_collect, YieldsList-from_skip}
 use Rattle.native_containers.proofs.native_items.characters.characters_between.Goals as goal
 
 pub returns : goal.returns

@@ -1,21 +1,5 @@
-use Rattle.std.proofs.Common.{◌∙◌, [], ◌∷◌, ap, sym, refl, subst}
-use Rattle.std.specs.Prelude.{is_some}
-use Rattle.py_node.specs.declared.entry.ListNative.TheVariants.{DelItem}
-use Rattle.py_node.specs.declared.entry.NativeEntry.TheVariants.{OfList}
-use Rattle.py_node.specs.declared.protocol.ProtocolTask.TheVariants.{Index}
-use Rattle.py_node.specs.declared.task.Task.TheVariants.{Protocol}
-use Rattle.plain_machine.specs.Plain.{DoIndex, ToProtocol}
-use Rattle.class_world.specs.Reading.{plain}
-use Rattle.class_world.specs.Sound.{AreNodes, Holds}
-use Rattle.class_world.proofs.Claims.{no-nodes}
-use Rattle.native_containers.specs.declared.native_items.ItemKept.TheVariants.{Deleting}
-use Rattle.native_containers.specs.Say.{list_changed}
-use Rattle.row_kit.specs.TakeContainers.{items_at}
-use Rattle.native_containers.specs.NativeItems.Items.{del_asked, del_item}
-use Rattle.native_containers.specs.NativeItems.Places.{put_part}
-use Rattle.native_containers.specs.NativeItems.Rows.{stood_told}
-use Rattle.native_containers.proofs.NativeItems.Standing.{del-asked, deleting-alike}
-use Rattle.native_containers.proofs.NativeItems.Steps.{asks-does, ends-does}
+use Rattle.native_containers.proofs.Lemmas.{◌∙◌, [], ap, sym, refl, subst, is_some, DelItem, OfList, Index, Protocol, DoIndex, ToProtocol, plain, AreNodes, Holds, no-nodes, Deleting, list_changed, items_at, del_asked, del_item, put_part, stood_told, del-asked, deleting-alike, asks-does, ends-does}
+use Rattle.std.proofs.Common.{◌∷◌}
 use Rattle.native_containers.proofs.native_items.delete.delete_asked.Goals as goal
 
 pub returns-in_ok-ended-in-Some-clause-goes : goal.returns-in_ok-ended-in-Some-clause-goes

@@ -1,11 +1,4 @@
-use Rattle.std.proofs.Common.{[], refl}
-use Rattle.py_node.specs.declared.entry.ListNative.TheVariants.{DelItem}
-use Rattle.py_node.specs.declared.entry.NativeEntry.TheVariants.{OfList}
-use Rattle.class_world.specs.Reading.{plain}
-use Rattle.row_kit.specs.declared.take_containers.Kind.TheVariants.{List}
-use Rattle.native_containers.specs.NativeItems.Items.{del_item}
-use Rattle.native_containers.specs.NativeItems.Say.{item_job_say}
-use Rattle.native_containers.proofs.NativeItems.Steps.{refused-enters, two-enters}
+use Rattle.native_containers.proofs.Lemmas.{[], refl, DelItem, OfList, plain, List, del_item, item_job_say, refused-enters, two-enters}
 use Rattle.native_containers.proofs.native_items.delete.delete_item.Goals as goal
 
 pub returns-in-Err-clause-goes : goal.returns-in-Err-clause-goes

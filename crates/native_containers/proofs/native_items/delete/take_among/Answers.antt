@@ -1,6 +1,4 @@
-use Rattle.std.proofs.Common.{sym, subst}
-use Rattle.class_world.specs.Sound.{AreNodes, Holds}
-use Rattle.native_containers.proofs.NativeItems.Ranges.{without-nodes}
+use Rattle.native_containers.proofs.Lemmas.{sym, subst, AreNodes, Holds, without-nodes}
 use Rattle.native_containers.proofs.native_items.delete.take_among.Goals as goal
 
 pub change_list-requires-clause-items : goal.change_list-requires-clause-items

@@ -1,12 +1,5 @@
-use Rattle.std.proofs.Common.{◌-◌, length, sym, ◌∙◌}
-use Rattle.std.specs.List.{remove}
-use Rattle.plain_machine.specs.Row.{none, value}
-use Rattle.class_world.specs.Reading.{plain}
-use Rattle.native_containers.specs.Say.{list_changed}
-use Rattle.row_kit.specs.TakeContainers.{items_at}
-use Rattle.native_containers.specs.NativeItems.Items.{placed}
-use Rattle.native_containers.specs.NativeItems.Places.{place_at}
-use Rattle.native_containers.proofs.NativeItems.InPlace.{fewer-by-one, items-changed, leads-to}
+use Rattle.native_containers.proofs.Lemmas.{length, sym, ◌∙◌, remove, none, value, plain, list_changed, items_at, placed, place_at, fewer-by-one, items-changed, leads-to}
+use Rattle.std.proofs.Common.{◌-◌}
 use Rattle.native_containers.proofs.native_items.delete.take_in_place.Goals as goal
 
 pub returns-else-not-is_within_limit-clause-ends : goal.returns-else-not-is_within_limit-clause-ends

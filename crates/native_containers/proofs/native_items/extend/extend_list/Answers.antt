@@ -1,11 +1,4 @@
-use Rattle.std.proofs.Common.{[], refl}
-use Rattle.py_node.specs.declared.entry.ListNative.TheVariants.{InplaceAdd}
-use Rattle.py_node.specs.declared.entry.NativeEntry.TheVariants.{OfList}
-use Rattle.class_world.specs.Reading.{plain}
-use Rattle.row_kit.specs.declared.take_containers.Kind.TheVariants.{List}
-use Rattle.native_containers.specs.NativeItems.Items.{extend}
-use Rattle.native_containers.specs.NativeItems.Say.{item_job_say}
-use Rattle.native_containers.proofs.NativeItems.Steps.{refused-enters, two-enters}
+use Rattle.native_containers.proofs.Lemmas.{[], refl, InplaceAdd, OfList, plain, List, extend, item_job_say, refused-enters, two-enters}
 use Rattle.native_containers.proofs.native_items.extend.extend_list.Goals as goal
 
 pub returns-in-Err-clause-goes : goal.returns-in-Err-clause-goes

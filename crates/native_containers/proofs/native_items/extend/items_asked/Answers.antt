@@ -1,15 +1,5 @@
-use Rattle.std.proofs.Common.{[], ◌∷◌, refl}
-use Rattle.py_node.specs.declared.entry.ListNative.TheVariants.{InplaceAdd}
-use Rattle.py_node.specs.declared.entry.NativeEntry.TheVariants.{OfList}
-use Rattle.py_node.specs.declared.protocol.ProtocolTask.TheVariants.{Collect}
-use Rattle.py_node.specs.declared.task.Task.TheVariants.{Protocol}
-use Rattle.plain_machine.specs.Plain.{DoCollect, ToProtocol}
-use Rattle.class_world.specs.Reading.{plain}
-use Rattle.native_containers.specs.declared.native_items.ItemKept.TheVariants.{Extending}
-use Rattle.native_containers.specs.NativeItems.Items.{extend}
-use Rattle.native_containers.specs.NativeItems.Rows.{stood_told}
-use Rattle.native_containers.proofs.NativeItems.Standing.{extend-asked, extending-alike}
-use Rattle.native_containers.proofs.NativeItems.Steps.{asks-does}
+use Rattle.native_containers.proofs.Lemmas.{[], refl, InplaceAdd, OfList, Collect, Protocol, DoCollect, ToProtocol, plain, Extending, extend, stood_told, extend-asked, extending-alike, asks-does}
+use Rattle.std.proofs.Common.{◌∷◌}
 use Rattle.native_containers.proofs.native_items.extend.items_asked.Goals as goal
 
 pub returns-clause-goes : goal.returns-clause-goes

@@ -1,6 +1,4 @@
-use Rattle.std.proofs.Common.{sym, subst}
-use Rattle.class_world.specs.Sound.{AreNodes, Holds}
-use Rattle.native_containers.proofs.NativeItems.Ranges.{both-nodes}
+use Rattle.native_containers.proofs.Lemmas.{sym, subst, AreNodes, Holds, both-nodes}
 use Rattle.native_containers.proofs.native_items.extend.put_all.Goals as goal
 
 pub set_payload-requires-clause-payload : goal.set_payload-requires-clause-payload

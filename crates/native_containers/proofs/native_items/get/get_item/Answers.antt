@@ -1,9 +1,4 @@
-use Rattle.std.proofs.Common.{◌∙◌, []}
-use Rattle.class_world.specs.Reading.{bindings, plain}
-use Rattle.native_containers.specs.NativeItems.Items.{get_item}
-use Rattle.native_containers.specs.NativeItems.Rows.{getter_of, made_as}
-use Rattle.native_containers.proofs.NativeItems.Natives.{getter-is}
-use Rattle.native_containers.proofs.NativeItems.Steps.{refused-enters, two-enters}
+use Rattle.native_containers.proofs.Lemmas.{◌∙◌, [], bindings, plain, get_item, getter_of, made_as, getter-is, refused-enters, two-enters}
 use Rattle.native_containers.proofs.native_items.get.get_item.Goals as goal
 
 pub returns-in-Err-clause-goes : goal.returns-in-Err-clause-goes

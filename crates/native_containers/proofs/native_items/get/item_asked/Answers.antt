@@ -1,15 +1,5 @@
-use Rattle.std.proofs.Common.{◌∙◌, [], ◌∷◌, ap, sym, refl}
-use Rattle.std.specs.Prelude.{is_some}
-use Rattle.py_node.specs.declared.protocol.ProtocolTask.TheVariants.{Index}
-use Rattle.py_node.specs.declared.task.Task.TheVariants.{Protocol}
-use Rattle.plain_machine.specs.Plain.{DoIndex, ToProtocol}
-use Rattle.class_world.specs.Reading.{plain}
-use Rattle.native_containers.specs.declared.native_items.ItemKept.TheVariants.{Getting}
-use Rattle.native_containers.specs.NativeItems.Items.{get_item, item_asked}
-use Rattle.native_containers.specs.NativeItems.Places.{part}
-use Rattle.native_containers.specs.NativeItems.Rows.{getter_of, made_as, stood_told}
-use Rattle.native_containers.proofs.NativeItems.Standing.{get-asked, getting-alike}
-use Rattle.native_containers.proofs.NativeItems.Steps.{asks-does, ends-does}
+use Rattle.native_containers.proofs.Lemmas.{◌∙◌, [], ap, sym, refl, is_some, Index, Protocol, DoIndex, ToProtocol, plain, Getting, get_item, item_asked, part, getter_of, made_as, stood_told, get-asked, getting-alike, asks-does, ends-does}
+use Rattle.std.proofs.Common.{◌∷◌}
 use Rattle.native_containers.proofs.native_items.get.item_asked.Goals as goal
 
 pub returns-in_ok-ended-in-Some-clause-goes : goal.returns-in_ok-ended-in-Some-clause-goes

@@ -1,10 +1,5 @@
-use Rattle.std.proofs.Common.{◌∙◌, [], ◌∷◌, ap}
-use Rattle.py_node.specs.declared.known.Known.TheVariants.{GetItem}
-use Rattle.py_node.specs.Known.{known_text}
-use Rattle.plain_machine.specs.Known.{the_int}
-use Rattle.plain_machine.specs.Plain.{DoSpecial, ToAttribute}
-use Rattle.plain_machine.specs.World.{next_node}
-use Rattle.class_world.specs.Reading.{bindings, plain}
+use Rattle.native_containers.proofs.Lemmas.{◌∙◌, [], ap, GetItem, known_text, the_int, DoSpecial, ToAttribute, next_node, bindings, plain}
+use Rattle.std.proofs.Common.{◌∷◌}
 use Rattle.native_containers.proofs.native_items.next.ask_item.Goals as goal
 
 pub returns-clause-task : goal.returns-clause-task

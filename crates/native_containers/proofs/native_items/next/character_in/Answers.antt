@@ -1,7 +1,4 @@
-use Rattle.std.proofs.Common.{◌∙◌, sym}
-use Rattle.std.proofs.lemmas.Iterator.{YieldsList-from_chars}
-use Rattle.std.proofs.lemmas.Iterator.Adapters.{option_map_id}
-use Rattle.std.proofs.lemmas.Iterator.Consumers.{nth_from_yields_List}
+use Rattle.native_containers.proofs.Lemmas.{◌∙◌, sym, YieldsList-from_chars, option_map_id, nth_from_yields_List}
 use Rattle.native_containers.proofs.native_items.next.character_in.Goals as goal
 
 pub returns : goal.returns

@@ -1,4 +1,4 @@
-use Rattle.native_containers.proofs.NativeItems.Ranges.{found-holds}
+use Rattle.native_containers.proofs.Lemmas.{found-holds}
 use Rattle.native_containers.proofs.native_items.next.found_in.Goals as goal
 
 pub returns-in-Tuple-clause-holds : goal.returns-in-Tuple-clause-holds

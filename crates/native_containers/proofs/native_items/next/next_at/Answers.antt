@@ -1,13 +1,5 @@
-use Rattle.std.proofs.Common.{◌∙◌, ap, sym}
-use Rattle.class_world.proofs.Claims.{all-append}
-use Rattle.class_world.specs.Claims.{of_task}
-use Rattle.class_world.specs.Reading.{plain}
-use Rattle.class_world.specs.Sound.{AllHold, Holding, IsNode}
+use Rattle.native_containers.proofs.Lemmas.{◌∙◌, ap, sym, all-append, of_task, plain, AllHold, Holding, IsNode, Iterating, of_item_kept, next_place, with_place, nothing-next, item-next, character-next, unknown-next}
 use Rattle.py_node.specs.declared.built_in.BuiltIn.TheVariants.{Iterator}
-use Rattle.native_containers.specs.declared.native_items.ItemKept.TheVariants.{Iterating}
-use Rattle.native_containers.specs.NativeItems.Rows.{of_item_kept}
-use Rattle.native_containers.specs.NativeItems.Iterators.{next_place, with_place}
-use Rattle.native_containers.proofs.NativeItems.Iterating.{nothing-next, item-next, character-next, unknown-next}
 use Rattle.native_containers.proofs.native_items.next.next_at.Goals as goal
 
 pub returns-in-Nothing-clause-goes : goal.returns-in-Nothing-clause-goes

@@ -1,14 +1,5 @@
-use Rattle.std.proofs.Common.{◌∙◌, [], ◌∷◌, Err, ap, refl}
-use Rattle.py_node.specs.declared.entry.IteratorNative.TheVariants.{Next}
-use Rattle.py_node.specs.declared.entry.NativeEntry.TheVariants.{OfIterator}
-use Rattle.py_node.specs.declared.raised.Cause.TheVariants.{IterEnd}
-use Rattle.py_node.specs.Faults.{raised}
-use Rattle.plain_machine.specs.Plain.{Ends}
-use Rattle.plain_machine.specs.Row.{fault}
-use Rattle.plain_machine.specs.World.{datum_at}
-use Rattle.class_world.specs.Reading.{plain}
-use Rattle.native_containers.specs.NativeItems.Iterators.{found_in, iterator_in, next_by, next_from, next_in}
-use Rattle.native_containers.proofs.NativeItems.Steps.{ends-does, same-does-ok}
+use Rattle.native_containers.proofs.Lemmas.{◌∙◌, [], Err, ap, refl, Next, OfIterator, IterEnd, raised, Ends, fault, datum_at, plain, found_in, iterator_in, next_by, next_from, next_in, ends-does, same-does-ok}
+use Rattle.std.proofs.Common.{◌∷◌}
 use Rattle.native_containers.proofs.native_items.next.next_from.Goals as goal
 
 pub returns-in-None-clause-goes : goal.returns-in-None-clause-goes

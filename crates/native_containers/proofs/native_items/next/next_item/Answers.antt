@@ -1,11 +1,4 @@
-use Rattle.std.proofs.Common.{[], refl}
-use Rattle.py_node.specs.declared.entry.IteratorNative.TheVariants.{Next}
-use Rattle.py_node.specs.declared.entry.NativeEntry.TheVariants.{OfIterator}
-use Rattle.class_world.specs.Reading.{plain}
-use Rattle.row_kit.specs.declared.take_containers.Kind.TheVariants.{Iterator}
-use Rattle.native_containers.specs.NativeItems.Iterators.{next_item}
-use Rattle.native_containers.specs.NativeItems.Say.{item_job_say}
-use Rattle.native_containers.proofs.NativeItems.Steps.{refused-enters, one-enters}
+use Rattle.native_containers.proofs.Lemmas.{[], refl, Next, OfIterator, plain, Iterator, next_item, item_job_say, refused-enters, one-enters}
 use Rattle.native_containers.proofs.native_items.next.next_item.Goals as goal
 
 pub returns-in-Err-clause-goes : goal.returns-in-Err-clause-goes

@@ -1,8 +1,5 @@
-use Rattle.std.proofs.Common.{◌≡◌, sym, subst}
-use Rattle.std.specs.Prelude.{slice_range}
-use Rattle.class_world.specs.Sound.{AreNodes, Holds}
-use Rattle.class_world.proofs.Stored.{ok-map}
-use Rattle.native_containers.proofs.NativeItems.Ranges.{range-nodes}
+use Rattle.native_containers.proofs.Lemmas.{sym, subst, slice_range, AreNodes, Holds, ok-map, range-nodes}
+use Rattle.std.proofs.Common.{◌≡◌}
 use Rattle.native_containers.proofs.native_items.places.part.Goals as goal
 
 pub returns-clause-holds : goal.returns-clause-holds

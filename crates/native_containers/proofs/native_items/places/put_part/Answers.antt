@@ -1,8 +1,5 @@
-use Rattle.std.proofs.Common.{◌≡◌, sym, subst}
-use Rattle.class_world.specs.Sound.{AreNodes, Holds}
-use Rattle.class_world.proofs.Stored.{ok-map}
-use Rattle.native_containers.specs.NativeItems.Places.{put_between}
-use Rattle.native_containers.proofs.NativeItems.Ranges.{put-nodes}
+use Rattle.native_containers.proofs.Lemmas.{sym, subst, AreNodes, Holds, ok-map, put_between, put-nodes}
+use Rattle.std.proofs.Common.{◌≡◌}
 use Rattle.native_containers.proofs.native_items.places.put_part.Goals as goal
 
 pub returns-clause-holds : goal.returns-clause-holds

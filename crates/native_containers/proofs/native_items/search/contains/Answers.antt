@@ -1,9 +1,4 @@
-use Rattle.std.proofs.Common.{◌∙◌, []}
-use Rattle.class_world.specs.Reading.{bindings, plain}
-use Rattle.native_containers.specs.NativeItems.Items.{look_for}
-use Rattle.native_containers.specs.NativeItems.Rows.{searcher_of}
-use Rattle.native_containers.proofs.NativeItems.Natives.{searcher-is}
-use Rattle.native_containers.proofs.NativeItems.Steps.{refused-enters, two-enters}
+use Rattle.native_containers.proofs.Lemmas.{◌∙◌, [], bindings, plain, look_for, searcher_of, searcher-is, refused-enters, two-enters}
 use Rattle.native_containers.proofs.native_items.search.contains.Goals as goal
 
 pub returns-in-Err-clause-goes : goal.returns-in-Err-clause-goes

@@ -1,5 +1,4 @@
-use Rattle.std.proofs.Common.{◌∙◌, sym}
-use Rattle.native_containers.proofs.NativeItems.Searches.{search-begins}
+use Rattle.native_containers.proofs.Lemmas.{◌∙◌, sym, search-begins}
 use Rattle.native_containers.proofs.native_items.search.first_asked.Goals as goal
 
 pub returns-clause-goes : goal.returns-clause-goes

@@ -1,9 +1,5 @@
-use Rattle.std.proofs.Common.{◌≡◌, ◌∙◌, ap, sym, subst, Ok, false}
-use Rattle.std.specs.Prelude.{slice_get}
-use Rattle.py_node.specs.declared.task.Answer.TheVariants.{Truth}
-use Rattle.native_containers.specs.declared.native_items.ItemKept.TheVariants.{Searching}
-use Rattle.native_containers.specs.NativeItems.Rows.{Resumes, next_asked}
-use Rattle.native_containers.proofs.NativeItems.Searches.{search-goes}
+use Rattle.native_containers.proofs.Lemmas.{◌∙◌, ap, sym, subst, Ok, false, slice_get, Truth, Searching, Resumes, next_asked, search-goes}
+use Rattle.std.proofs.Common.{◌≡◌}
 use Rattle.native_containers.proofs.native_items.search.searched.Goals as goal
 
 pub returns-in-Ok-Truth-false-clause-goes : goal.returns-in-Ok-Truth-false-clause-goes

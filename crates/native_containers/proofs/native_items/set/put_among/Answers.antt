@@ -1,4 +1,4 @@
-use Rattle.native_containers.proofs.NativeItems.Ranges.{set-nodes}
+use Rattle.native_containers.proofs.Lemmas.{set-nodes}
 use Rattle.native_containers.proofs.native_items.set.put_among.Goals as goal
 
 pub change_list-requires-clause-items : goal.change_list-requires-clause-items

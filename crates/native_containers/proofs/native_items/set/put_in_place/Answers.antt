@@ -1,13 +1,4 @@
-use Rattle.std.proofs.Common.{length, sym, ◌∙◌}
-use Rattle.std.proofs.lemmas.List.{length-set}
-use Rattle.std.specs.Prelude.{slice_set}
-use Rattle.plain_machine.specs.Row.{none, value}
-use Rattle.class_world.specs.Reading.{plain}
-use Rattle.native_containers.specs.Say.{list_changed}
-use Rattle.row_kit.specs.TakeContainers.{items_at}
-use Rattle.native_containers.specs.NativeItems.Items.{placed}
-use Rattle.native_containers.specs.NativeItems.Places.{place_at}
-use Rattle.native_containers.proofs.NativeItems.InPlace.{items-changed, leads-to}
+use Rattle.native_containers.proofs.Lemmas.{length, sym, ◌∙◌, length-set, slice_set, none, value, plain, list_changed, items_at, placed, place_at, items-changed, leads-to}
 use Rattle.native_containers.proofs.native_items.set.put_in_place.Goals as goal
 
 pub returns-else-not-is_within_limit-clause-ends : goal.returns-else-not-is_within_limit-clause-ends

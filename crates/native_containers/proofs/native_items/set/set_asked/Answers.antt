@@ -1,16 +1,5 @@
-use Rattle.std.proofs.Common.{◌∙◌, [], ◌∷◌, ap, sym, refl}
-use Rattle.std.specs.Prelude.{is_some}
-use Rattle.py_node.specs.declared.entry.ListNative.TheVariants.{SetItem}
-use Rattle.py_node.specs.declared.entry.NativeEntry.TheVariants.{OfList}
-use Rattle.py_node.specs.declared.protocol.ProtocolTask.TheVariants.{Collect, Index}
-use Rattle.py_node.specs.declared.task.Task.TheVariants.{Protocol}
-use Rattle.plain_machine.specs.Plain.{DoCollect, DoIndex, ToProtocol}
-use Rattle.class_world.specs.Reading.{plain}
-use Rattle.native_containers.specs.declared.native_items.ItemKept.TheVariants.{Setting}
-use Rattle.native_containers.specs.NativeItems.Items.{set_item}
-use Rattle.native_containers.specs.NativeItems.Rows.{stood_told}
-use Rattle.native_containers.proofs.NativeItems.Standing.{set-asked, set-part-asked, setting-alike}
-use Rattle.native_containers.proofs.NativeItems.Steps.{asks-does}
+use Rattle.native_containers.proofs.Lemmas.{◌∙◌, [], ap, sym, refl, is_some, SetItem, OfList, Collect, Index, Protocol, DoCollect, DoIndex, ToProtocol, plain, Setting, set_item, stood_told, set-asked, set-part-asked, setting-alike, asks-does}
+use Rattle.std.proofs.Common.{◌∷◌}
 use Rattle.native_containers.proofs.native_items.set.set_asked.Goals as goal
 
 pub returns-in_ok-stood-in-Some-clause-goes : goal.returns-in_ok-stood-in-Some-clause-goes

@@ -1,5 +1,4 @@
-use Rattle.std.proofs.Common.{pos, refl}
-use Rattle.native_containers.proofs.NativeParts.Hashes.{hash-refused, hash-starts}
+use Rattle.native_containers.proofs.Lemmas.{pos, refl, hash-refused, hash-starts}
 use Rattle.native_containers.proofs.native_parts.hash.begin_hash.Goals as goal
 
 pub returns-in-Err-clause-goes : goal.returns-in-Err-clause-goes

@@ -1,9 +1,6 @@
-use Rattle.std.proofs.Common.{◌≡◌, ◌∙◌, refl, ap, arith}
-use Rattle.std.specs.Int.{w64}
-use Rattle.std.proofs.lemmas.Int.{ints}
+use Rattle.native_containers.proofs.Lemmas.{◌∙◌, refl, ap, arith, w64, ints, hashed_on, hash-more, hash-other}
+use Rattle.std.proofs.Common.{◌≡◌}
 use mir.Val.{to_z, of_z}
-use Rattle.native_containers.specs.NativeParts.Texts.{hashed_on}
-use Rattle.native_containers.proofs.NativeParts.Hashes.{hash-more, hash-other}
 use Rattle.native_containers.proofs.native_parts.hash.hash_given.Goals as goal
 
 pub returns-in-Err-clause-goes : goal.returns-in-Err-clause-goes

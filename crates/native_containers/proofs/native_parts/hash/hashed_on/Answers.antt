@@ -1,5 +1,4 @@
-use Rattle.std.proofs.Common.{arith}
-use Rattle.std.proofs.lemmas.Int.{to_z-of_z, ints}
+use Rattle.native_containers.proofs.Lemmas.{arith, to_z-of_z, ints}
 use Rattle.native_containers.proofs.native_parts.hash.hashed_on.Goals as goal
 
 pub returns : goal.returns

@@ -1,11 +1,6 @@
-use Rattle.std.proofs.Common.{◌≡◌, ◌+◌, ◌∙◌, [], ◌∷◌, drop, Some, ap, sym, arith}
-use Rattle.std.specs.Prelude.{slice_get}
-use Rattle.std.specs.Int.{w64}
-use Rattle.std.proofs.lemmas.Int.{ints}
+use Rattle.native_containers.proofs.Lemmas.{◌∙◌, [], drop, Some, ap, sym, arith, slice_get, w64, ints, node-in, drop-got, drop-none, hash-asks, hash-finish}
+use Rattle.std.proofs.Common.{◌≡◌, ◌+◌, ◌∷◌}
 use mir.Val.{to_z, of_z}
-use Rattle.class_world.proofs.Claims.{node-in}
-use Rattle.native_containers.proofs.NativeParts.Asking.{drop-got, drop-none}
-use Rattle.native_containers.proofs.NativeParts.Hashes.{hash-asks, hash-finish}
 use Rattle.native_containers.proofs.native_parts.hash.next_hash.Goals as goal
 
 pub returns-in-None-clause-goes : goal.returns-in-None-clause-goes

@@ -1,4 +1,4 @@
-use Rattle.class_world.proofs.Claims.{no-nodes}
+use Rattle.native_containers.proofs.Lemmas.{no-nodes}
 use Rattle.native_containers.proofs.native_parts.makers.begin_list.Goals as goal
 
 pub fill-ended-requires-clause-items : goal.fill-ended-requires-clause-items

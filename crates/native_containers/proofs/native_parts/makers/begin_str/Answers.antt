@@ -1,15 +1,8 @@
-use Rattle.std.proofs.Common.{◌≡◌, [], ◌∷◌, Ok, refl, sym, ap, string_bytes}
+use Rattle.native_containers.proofs.Lemmas.{[], Ok, refl, sym, ap, string_bytes, Value, AText, ReadObjects, ref, bindings, plain, object_made, NewStr, str-alone, str-asks, str-said, str-waits, made-so, maker-alone, maker-asks, maker-refused}
+use Rattle.std.proofs.Common.{◌≡◌, ◌∷◌}
 use Rattle.py_node.specs.declared.built_in.BuiltIn.TheVariants as built_in
 use Rattle.py_node.specs.declared.protocol.ObjectTask.TheVariants as object
-use Rattle.py_node.specs.declared.task.Answer.TheVariants.{Value}
 use Rattle.py_node.specs.declared.task.Task.TheVariants as task
-use Rattle.plain_machine.specs.Plain.{AText, ReadObjects}
-use Rattle.plain_machine.specs.World.{ref}
-use Rattle.class_world.specs.Reading.{bindings, plain}
-use Rattle.row_kit.specs.Say.{object_made}
-use Rattle.native_containers.specs.declared.native_parts.PartsKept.TheVariants.{NewStr}
-use Rattle.native_containers.proofs.NativeParts.Heirs.{str-alone, str-asks, str-said, str-waits}
-use Rattle.native_containers.proofs.NativeParts.Made.{made-so, maker-alone, maker-asks, maker-refused}
 use Rattle.native_containers.proofs.native_parts.makers.begin_str.Goals as goal
 
 pub returns-in-Err-one_at_most-clause-goes : goal.returns-in-Err-one_at_most-clause-goes

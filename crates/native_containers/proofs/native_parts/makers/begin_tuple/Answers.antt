@@ -1,16 +1,8 @@
-use Rattle.std.proofs.Common.{[], ◌∷◌, Ok, refl, sym, ap}
+use Rattle.native_containers.proofs.Lemmas.{[], Ok, refl, sym, ap, Value, ATuple, ReadObjects, ref, bindings, plain, object_made, NewTuple, tuple-alone, tuple-asks, tuple-said, tuple-waits, made-so, maker-alone, maker-asks, maker-refused, no-nodes}
+use Rattle.std.proofs.Common.{◌∷◌}
 use Rattle.py_node.specs.declared.built_in.BuiltIn.TheVariants as built_in
 use Rattle.py_node.specs.declared.protocol.ProtocolTask.TheVariants as protocol
-use Rattle.py_node.specs.declared.task.Answer.TheVariants.{Value}
 use Rattle.py_node.specs.declared.task.Task.TheVariants as task
-use Rattle.plain_machine.specs.Plain.{ATuple, ReadObjects}
-use Rattle.plain_machine.specs.World.{ref}
-use Rattle.class_world.specs.Reading.{bindings, plain}
-use Rattle.row_kit.specs.Say.{object_made}
-use Rattle.native_containers.specs.declared.native_parts.PartsKept.TheVariants.{NewTuple}
-use Rattle.native_containers.proofs.NativeParts.Heirs.{tuple-alone, tuple-asks, tuple-said, tuple-waits}
-use Rattle.native_containers.proofs.NativeParts.Made.{made-so, maker-alone, maker-asks, maker-refused}
-use Rattle.class_world.proofs.Claims.{no-nodes}
 use Rattle.native_containers.proofs.native_parts.makers.begin_tuple.Goals as goal
 
 pub make_node-requires-clause-payload : goal.make_node-requires-clause-payload

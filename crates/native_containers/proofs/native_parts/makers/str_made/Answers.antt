@@ -1,7 +1,5 @@
-use Rattle.std.proofs.Common.{◌≡◌, ◌∙◌, ℕ, sym, string_bytes}
-use Rattle.py_node.specs.BuiltIns.{place_of}
-use Rattle.plain_machine.specs.Known.{the_str}
-use Rattle.native_containers.proofs.NativeParts.Heirs.{str-new, str-same}
+use Rattle.native_containers.proofs.Lemmas.{◌∙◌, ℕ, sym, string_bytes, place_of, the_str, str-new, str-same}
+use Rattle.std.proofs.Common.{◌≡◌}
 use Rattle.native_containers.proofs.native_parts.makers.str_made.Goals as goal
 
 pub returns-then-class-clause-goes : goal.returns-then-class-clause-goes

@@ -1,14 +1,7 @@
-use Rattle.std.proofs.Common.{[], Ok, refl, sym, ap}
+use Rattle.native_containers.proofs.Lemmas.{[], Ok, refl, sym, ap, Value, Ends, value, bindings, plain, NewBool, bool-alone, bool-asks, bool-said, bool-waits, maker-alone, maker-asks, maker-refused}
 use Rattle.py_node.specs.declared.built_in.BuiltIn.TheVariants as built_in
 use Rattle.py_node.specs.declared.protocol.ProtocolTask.TheVariants as protocol
-use Rattle.py_node.specs.declared.task.Answer.TheVariants.{Value}
 use Rattle.py_node.specs.declared.task.Task.TheVariants as task
-use Rattle.plain_machine.specs.Plain.{Ends}
-use Rattle.plain_machine.specs.Row.{value}
-use Rattle.class_world.specs.Reading.{bindings, plain}
-use Rattle.native_containers.specs.declared.native_parts.PartsKept.TheVariants.{NewBool}
-use Rattle.native_containers.proofs.NativeParts.Heirs.{bool-alone, bool-asks, bool-said, bool-waits}
-use Rattle.native_containers.proofs.NativeParts.Made.{maker-alone, maker-asks, maker-refused}
 use Rattle.native_containers.proofs.native_parts.numbers.begin_bool.Goals as goal
 
 pub returns-in-Err-one_at_most-clause-goes : goal.returns-in-Err-one_at_most-clause-goes

@@ -1,14 +1,8 @@
-use Rattle.std.proofs.Common.{[], ◌∷◌, Ok, refl, pos}
+use Rattle.native_containers.proofs.Lemmas.{[], Ok, refl, pos, Value, ANumber, ReadObjects, ref, bindings, NewInt, int-alone, int-asks, int-said, int-waits, made-so, maker-alone, maker-asks, maker-refused}
+use Rattle.std.proofs.Common.{◌∷◌}
 use Rattle.py_node.specs.declared.built_in.BuiltIn.TheVariants as built_in
 use Rattle.py_node.specs.declared.protocol.ProtocolTask.TheVariants as protocol
-use Rattle.py_node.specs.declared.task.Answer.TheVariants.{Value}
 use Rattle.py_node.specs.declared.task.Task.TheVariants as task
-use Rattle.plain_machine.specs.Plain.{ANumber, ReadObjects}
-use Rattle.plain_machine.specs.World.{ref}
-use Rattle.class_world.specs.Reading.{bindings}
-use Rattle.native_containers.specs.declared.native_parts.PartsKept.TheVariants.{NewInt}
-use Rattle.native_containers.proofs.NativeParts.Heirs.{int-alone, int-asks, int-said, int-waits}
-use Rattle.native_containers.proofs.NativeParts.Made.{made-so, maker-alone, maker-asks, maker-refused}
 use Rattle.native_containers.proofs.native_parts.numbers.begin_int.Goals as goal
 
 pub returns-in-Err-one_at_most-clause-goes : goal.returns-in-Err-one_at_most-clause-goes

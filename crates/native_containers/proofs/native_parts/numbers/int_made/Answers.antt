@@ -1,16 +1,7 @@
-use Rattle.std.proofs.Common.{◌≡◌, ℕ, ◌∙◌, ap, sym, subst, arith, Ok}
-use Rattle.std.specs.Int.{w128}
-use Rattle.std.proofs.lemmas.Int.{ints}
+use Rattle.native_containers.proofs.Lemmas.{ℕ, ◌∙◌, ap, sym, subst, arith, Ok, w128, ints, place_of, Value, the_int, ANumber, with_node, plain, NewInt, int-new, int-none, int-same}
+use Rattle.std.proofs.Common.{◌≡◌}
 use mir.Val.{to_z, of_z}
-use Rattle.py_node.specs.BuiltIns.{place_of}
-use Rattle.py_node.specs.declared.task.Answer.TheVariants.{Value}
-use Rattle.plain_machine.specs.Known.{the_int}
-use Rattle.plain_machine.specs.Plain.{ANumber}
-use Rattle.plain_machine.specs.World.{with_node}
-use Rattle.class_world.specs.Reading.{plain}
-use Rattle.native_containers.specs.declared.native_parts.PartsKept.TheVariants.{NewInt}
 use Rattle.native_containers.specs.NativeParts.Rows.{Resumes}
-use Rattle.native_containers.proofs.NativeParts.Heirs.{int-new, int-none, int-same}
 use Rattle.native_containers.proofs.native_parts.numbers.int_made.Goals as goal
 
 pub returns-then-class-clause-goes : goal.returns-then-class-clause-goes

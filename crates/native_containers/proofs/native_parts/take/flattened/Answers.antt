@@ -1,7 +1,4 @@
-use Rattle.std.proofs.Common.{◌∙◌, ap, subst, sym, take_all}
-use Rattle.class_world.specs.Sound.{AreNodes, Holds}
-use Rattle.native_containers.specs.NativeParts.Texts.{flattened}
-use Rattle.native_containers.proofs.NativeParts.Contents.{flat-nodes}
+use Rattle.native_containers.proofs.Lemmas.{◌∙◌, ap, subst, sym, take_all, AreNodes, Holds, flattened, flat-nodes}
 use Rattle.native_containers.proofs.native_parts.take.flattened.Goals as goal
 
 pub returns-clause-holds : goal.returns-clause-holds

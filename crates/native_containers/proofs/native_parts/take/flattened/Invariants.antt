@@ -1,5 +1,5 @@
-use Rattle.std.proofs.Common.{◌≡◌, take}
-use Rattle.native_containers.specs.NativeParts.Texts.{flattened}
+use Rattle.native_containers.proofs.Below.{take, flattened}
+use Rattle.std.proofs.Common.{◌≡◌}
 use Rattle.native_containers.proofs.native_parts.take.flattened.Given as goal
 
 abbrev pub invariant-loop-entry : goal.invariant-loop-entry

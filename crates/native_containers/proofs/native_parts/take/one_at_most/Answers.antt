@@ -1,6 +1,4 @@
-use Rattle.std.proofs.Common.{◌∙◌}
-use Rattle.class_world.specs.Reading.{bindings}
-use Rattle.native_containers.proofs.NativeParts.Given.{one-given, two-given}
+use Rattle.native_containers.proofs.Lemmas.{◌∙◌, bindings, one-given, two-given}
 use Rattle.native_containers.proofs.native_parts.take.one_at_most.Goals as goal
 
 pub returns-in-Err-clause-refused : goal.returns-in-Err-clause-refused

@@ -1,7 +1,4 @@
-use Rattle.std.proofs.Common.{◌∙◌, ap, sym}
-use Rattle.class_world.proofs.Claims.{no-nodes}
-use Rattle.native_containers.specs.NativeParts.Texts.{parts_in}
-use Rattle.native_containers.proofs.NativeParts.Contents.{no-parts}
+use Rattle.native_containers.proofs.Lemmas.{◌∙◌, ap, sym, no-nodes, parts_in, no-parts}
 use Rattle.native_containers.proofs.native_parts.take.parts_of.Goals as goal
 
 pub returns-in_default-clause-parts : goal.returns-in_default-clause-parts

@@ -1,6 +1,4 @@
-use Rattle.std.proofs.Common.{refl}
-use Rattle.class_world.proofs.Claims.{no-nodes}
-use Rattle.native_containers.proofs.NativeParts.Asking.{text-refused, text-starts}
+use Rattle.native_containers.proofs.Lemmas.{refl, no-nodes, text-refused, text-starts}
 use Rattle.native_containers.proofs.native_parts.texts.begin_text.Goals as goal
 
 pub returns-in-Err-clause-goes : goal.returns-in-Err-clause-goes

@@ -1,11 +1,5 @@
-use Rattle.std.proofs.Common.{◌≡◌, ◌++◌, ◌∙◌, ◌<◌, refl, sym, ap, length, get_or, string_bytes, arith, Err}
-use Rattle.std.proofs.lemmas.Grind.{common_steps}
-use Rattle.plain_machine.specs.Row.{most_items}
-use Rattle.plain_machine.specs.World.{ref}
-use Rattle.class_world.specs.Reading.{plain}
-use Rattle.row_kit.specs.Say.{in_length}
-use Rattle.native_containers.specs.NativeParts.Texts.{closing, text_at}
-use Rattle.native_containers.proofs.NativeParts.Joined.{closed, long, part-more, short, too-long}
+use Rattle.native_containers.proofs.Lemmas.{◌∙◌, refl, sym, ap, length, get_or, string_bytes, arith, Err, common_steps, most_items, ref, plain, in_length, closing, text_at, closed, long, part-more, short, too-long}
+use Rattle.std.proofs.Common.{◌≡◌, ◌++◌, ◌<◌}
 use Rattle.native_containers.proofs.native_parts.texts.container_text.Goals as goal
 
 pub returns-then-len-gt-MOST_ITEMS-clause-long : goal.returns-then-len-gt-MOST_ITEMS-clause-long

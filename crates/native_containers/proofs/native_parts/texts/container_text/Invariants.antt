@@ -1,5 +1,4 @@
-use Rattle.std.proofs.Common.{string_bytes}
-use Rattle.class_world.specs.Reading.{Reading, plain}
+use Rattle.native_containers.proofs.Below.{string_bytes, Reading, plain}
 use Rattle.native_containers.proofs.NativeParts.Joined.{UpTo}
 use Rattle.native_containers.proofs.native_parts.texts.container_text.Given as goal
 

@@ -1,8 +1,5 @@
-use Rattle.std.proofs.Common.{◌≡◌, ◌+◌, ◌∙◌, [], ◌∷◌, drop, Some, ap, sym}
-use Rattle.std.specs.Prelude.{slice_get}
-use Rattle.class_world.proofs.Claims.{node-in}
-use Rattle.class_world.proofs.Growth.{grows-itself}
-use Rattle.native_containers.proofs.NativeParts.Asking.{drop-got, drop-none, text-asks, text-finish}
+use Rattle.native_containers.proofs.Lemmas.{◌∙◌, [], drop, Some, ap, sym, slice_get, node-in, grows-itself, drop-got, drop-none, text-asks, text-finish}
+use Rattle.std.proofs.Common.{◌≡◌, ◌+◌, ◌∷◌}
 use Rattle.native_containers.proofs.native_parts.texts.next_text.Goals as goal
 
 pub returns-in_ok-ended-in-None-clause-goes : goal.returns-in_ok-ended-in-None-clause-goes

@@ -1,4 +1,5 @@
-use Rattle.std.proofs.Common.{◌++◌, ◌∙◌, ap, sym, append_assoc, string_bytes}
+use Rattle.native_containers.proofs.Lemmas.{◌∙◌, ap, sym, append_assoc, string_bytes}
+use Rattle.std.proofs.Common.{◌++◌}
 use Rattle.native_containers.proofs.native_parts.texts.push_part.Goals as goal
 
 pub returns : goal.returns

@@ -1,6 +1,4 @@
-use Rattle.std.proofs.Common.{refl}
-use Rattle.class_world.proofs.Claims.{more-nodes}
-use Rattle.native_containers.proofs.NativeParts.Asking.{text-more, text-other}
+use Rattle.native_containers.proofs.Lemmas.{refl, more-nodes, text-more, text-other}
 use Rattle.native_containers.proofs.native_parts.texts.text_given.Goals as goal
 
 pub returns-in-Err-clause-goes : goal.returns-in-Err-clause-goes

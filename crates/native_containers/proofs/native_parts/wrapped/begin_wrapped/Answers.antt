@@ -1,4 +1,4 @@
-use Rattle.native_containers.proofs.NativeParts.Made.{wrapper-asks, wrapper-many, wrapper-refused}
+use Rattle.native_containers.proofs.Lemmas.{wrapper-asks, wrapper-many, wrapper-refused}
 use Rattle.native_containers.proofs.native_parts.wrapped.begin_wrapped.Goals as goal
 
 pub returns-in-Err-clause-goes : goal.returns-in-Err-clause-goes

@@ -1,5 +1,4 @@
-use Rattle.std.proofs.Common.{string_bytes}
-use Rattle.native_containers.proofs.NativeParts.Made.{wrapper-ended}
+use Rattle.native_containers.proofs.Lemmas.{string_bytes, wrapper-ended}
 use Rattle.native_containers.proofs.native_parts.wrapped.wrapped_given.Goals as goal
 
 pub returns-in_ok-ended-in-Ok-clause-goes : goal.returns-in_ok-ended-in-Ok-clause-goes

@@ -1,5 +1,5 @@
-use Rattle.std.proofs.Common.{◌≡◌, take, fold}
-use Rattle.native_containers.specs.NativeTexts.Texts.{hashed_on}
+use Rattle.native_containers.proofs.Below.{take, fold, hashed_on}
+use Rattle.std.proofs.Common.{◌≡◌}
 use Rattle.native_containers.proofs.native_texts.of_bytes.hash_of.Given as goal
 
 abbrev pub invariant-loop-byte : goal.invariant-loop-byte

@@ -1,5 +1,4 @@
-use Rattle.std.proofs.lemmas.Str.Pattern.{contains_text}
-use Rattle.native_containers.proofs.NativeTexts.Inside.{inside}
+use Rattle.native_containers.proofs.Lemmas.{contains_text, inside}
 use Rattle.native_containers.proofs.native_texts.of_bytes.stands_in.Goals as goal
 
 pub returns : goal.returns

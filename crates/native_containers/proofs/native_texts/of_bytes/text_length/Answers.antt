@@ -1,6 +1,5 @@
-use Rattle.std.proofs.Common.{◌≡◌, ℕ, length, sym, ap, ◌∙◌}
-use Rattle.std.specs.Str.{chars}
-use Rattle.std.proofs.lemmas.Str.{Chars-Drains, encodes-chars}
+use Rattle.native_containers.proofs.Lemmas.{ℕ, length, sym, ap, ◌∙◌, chars, Chars-Drains, encodes-chars}
+use Rattle.std.proofs.Common.{◌≡◌}
 use Rattle.native_containers.proofs.native_texts.of_bytes.text_length.Goals as goal
 
 pub returns : goal.returns

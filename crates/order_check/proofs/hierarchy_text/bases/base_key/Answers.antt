@@ -1,9 +1,5 @@
-use Rattle.std.proofs.Common.{◌≡◌, Some, None, Err, position, arith}
-use Rattle.std.specs.Prelude.{bytes_eq}
-use Rattle.serde_json.specs.Find.{as_str}
-use Rattle.serde_json.specs.View.{view}
-use Rattle.order_check.proofs.HierarchyText.Errors.{if-err}
-use Rattle.order_check.proofs.HierarchyText.Keys.{base_key-is}
+use Rattle.order_check.proofs.Lemmas.{Some, None, Err, position, arith, bytes_eq, as_str, view, if-err, base_key-is}
+use Rattle.std.proofs.Common.{◌≡◌}
 use Rattle.order_check.proofs.hierarchy_text.bases.base_key.Goals as goal
 
 pub returns-in_err-key-clause-shape : goal.returns-in_err-key-clause-shape

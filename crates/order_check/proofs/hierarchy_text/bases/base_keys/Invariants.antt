@@ -1,7 +1,5 @@
-use Rattle.std.proofs.Common.{◌≡◌, drop}
-use Rattle.serde_json.specs.View.{items_view}
-use Rattle.script_text.proofs.JsonText.Lists.{onto}
-use Rattle.order_check.specs.HierarchyText.Items.{texts, base_keys}
+use Rattle.order_check.proofs.Below.{drop, items_view, onto, texts, base_keys}
+use Rattle.std.proofs.Common.{◌≡◌}
 use Rattle.order_check.proofs.hierarchy_text.bases.base_keys.Given as goal
 
 abbrev pub invariant-loop-item : goal.invariant-loop-item

@@ -1,5 +1,4 @@
-use Rattle.std.proofs.Common.{sym, ◌∙◌}
-use Rattle.order_check.proofs.HierarchyText.Keys.{key-found, key-missing, place-next, was_new, was_there}
+use Rattle.order_check.proofs.Lemmas.{sym, ◌∙◌, key-found, key-missing, place-next, was_new, was_there}
 use Rattle.order_check.proofs.hierarchy_text.classes.new_key.Goals as goal
 
 pub returns-then-not-is_new-clause-shape : goal.returns-then-not-is_new-clause-shape

@@ -1,9 +1,5 @@
-use Rattle.std.proofs.Common.{◌≡◌, Some, Err, option_map, string_bytes, arith}
-use Rattle.serde_json.specs.View.{view, items_view}
-use Rattle.script_text.specs.declared.json_text.items.Unread.TheVariants.{Shape}
-use Rattle.order_check.specs.HierarchyText.Spelled.{or_first}
-use Rattle.order_check.specs.HierarchyText.Items.{texts, base_keys}
-use Rattle.order_check.proofs.HierarchyText.ClassesAfter.{class-new, class-old, class-without}
+use Rattle.order_check.proofs.Lemmas.{Some, Err, string_bytes, arith, view, items_view, Shape, or_first, texts, base_keys, class-new, class-old, class-without}
+use Rattle.std.proofs.Common.{◌≡◌, option_map}
 use Rattle.order_check.proofs.hierarchy_text.classes.read_class.Goals as goal
 
 pub returns-in_err-bases-clause-shape : goal.returns-in_err-bases-clause-shape

@@ -1,7 +1,5 @@
-use Rattle.std.proofs.Common.{◌≡◌, None, arith}
-use Rattle.serde_json.specs.View.{view}
-use Rattle.order_check.specs.HierarchyText.Items.{texts, class_at}
-use Rattle.order_check.proofs.HierarchyText.ClassesAfter.{all-classes, before-first, last-class, next-class, none-after}
+use Rattle.order_check.proofs.Lemmas.{None, arith, view, texts, class_at, all-classes, before-first, last-class, next-class, none-after}
+use Rattle.std.proofs.Common.{◌≡◌}
 use Rattle.order_check.proofs.hierarchy_text.classes.read_classes.Goals as goal
 
 pub returns-in_err-read_class-clause-shape : goal.returns-in_err-read_class-clause-shape

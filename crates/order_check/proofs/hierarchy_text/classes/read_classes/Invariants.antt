@@ -1,8 +1,5 @@
-use Rattle.std.proofs.Common.{◌≡◌, [], ◌∷◌, codes, drop, map, option_map}
-use Rattle.serde_json.specs.View.{items_view}
-use Rattle.script_text.proofs.JsonText.Lists.{onto}
-use Rattle.order_check.specs.HierarchyText.Spelled.{classes_after, plain_class, with_first}
-use Rattle.order_check.specs.HierarchyText.Items.{texts}
+use Rattle.order_check.proofs.Below.{[], drop, map, items_view, onto, classes_after, plain_class, with_first, texts}
+use Rattle.std.proofs.Common.{◌≡◌, ◌∷◌, codes, option_map}
 use Rattle.order_check.proofs.hierarchy_text.classes.read_classes.Given as goal
 
 abbrev pub invariant-loop-item : goal.invariant-loop-item

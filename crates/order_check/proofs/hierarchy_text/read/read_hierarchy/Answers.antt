@@ -1,5 +1,4 @@
-use Rattle.serde_json.specs.View.{view}
-use Rattle.order_check.proofs.HierarchyText.InOrder.{value-order}
+use Rattle.order_check.proofs.Lemmas.{view, value-order}
 use Rattle.order_check.proofs.hierarchy_text.read.read_hierarchy.Goals as goal
 
 pub returns-clause-order : goal.returns-clause-order

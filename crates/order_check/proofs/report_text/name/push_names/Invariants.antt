@@ -1,7 +1,5 @@
-use Rattle.std.proofs.Common.{◌≡◌, ◌++◌, take, map}
-use Rattle.std.specs.Prelude.{codes}
-use Rattle.std.specs.List.{flat_map}
-use Rattle.order_check.specs.ReportText.ReportText.{shown}
+use Rattle.order_check.proofs.Below.{take, map, codes, flat_map, shown}
+use Rattle.std.proofs.Common.{◌≡◌, ◌++◌}
 use Rattle.order_check.proofs.report_text.name.push_names.Given as goal
 
 abbrev pub invariant-loop-key : goal.invariant-loop-key

@@ -1,7 +1,4 @@
-use Rattle.std.proofs.Common.{length, add-one}
-use Rattle.std.proofs.lemmas.Slice.Zip.{zip_turn, zip_end}
-use Rattle.std.proofs.lemmas.List.{length_push}
-use Rattle.order_check.proofs.ReportText.Lines.{one-more, all-there}
+use Rattle.order_check.proofs.Lemmas.{length, add-one, zip_turn, zip_end, length_push, one-more, all-there}
 use Rattle.order_check.proofs.report_text.write.push_lines.Goals as goal
 
 pub loop-class-preserved : goal.loop-class-preserved

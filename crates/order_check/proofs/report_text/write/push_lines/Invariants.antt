@@ -1,5 +1,5 @@
-use Rattle.std.proofs.Common.{◌≡◌, ◌++◌, length, drop}
-use Rattle.order_check.specs.ReportText.ReportText.{lines_text}
+use Rattle.order_check.proofs.Below.{length, drop, lines_text}
+use Rattle.std.proofs.Common.{◌≡◌, ◌++◌}
 use Rattle.order_check.proofs.report_text.write.push_lines.Given as goal
 
 abbrev pub invariant-loop-class : goal.invariant-loop-class

@@ -1,7 +1,4 @@
-use Rattle.std.proofs.Common.{◌∙◌, arith}
-use Rattle.std.proofs.lemmas.Grind.{common_steps}
-use Rattle.order_check.specs.ReportText.ReportText.{lines_text}
-use Rattle.order_check.proofs.ReportText.Plain.{report-plain}
+use Rattle.order_check.proofs.Lemmas.{◌∙◌, arith, common_steps, lines_text, report-plain}
 use Rattle.order_check.proofs.report_text.write.write_report.Goals as goal
 
 pub returns-clause-text : goal.returns-clause-text

@@ -1,4 +1,4 @@
-use Rattle.proto_attr.proofs.NativeCalls.Lists.{rest-hold}
+use Rattle.proto_attr.proofs.Lemmas.{rest-hold}
 use Rattle.proto_attr.proofs.native_calls.bind.bound.Goals as goal
 
 pub returns-in_ok-o-in-len1-up-clause-object : goal.returns-in_ok-o-in-len1-up-clause-object

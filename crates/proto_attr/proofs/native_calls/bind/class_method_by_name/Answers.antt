@@ -1,18 +1,5 @@
-use Rattle.std.proofs.Common.{◌∙◌, ap, Some, Option, Err}
-use Rattle.py_node.specs.declared.refs.PyObjectRef.{PyObjectRef}
-use Rattle.plain_machine.specs.Plain.{PlainWorld, Said}
-use Rattle.plain_machine.specs.World.{datum_at}
-use Rattle.class_world.specs.Reading.{bindings, plain}
-use Rattle.std.proofs.Common.{[], ◌∷◌}
-use Rattle.py_node.specs.declared.known.Known.TheVariants.{Get}
-use Rattle.py_node.specs.Known.{known_text}
-use Rattle.plain_machine.specs.Plain.{Asks, DoGetAttr, ReadObjects, ToAttribute}
-use Rattle.class_world.specs.Claims.{of_task}
-use Rattle.class_world.specs.Sound.{IsNode}
-use Rattle.class_world.proofs.Claims.{all-append}
-use Rattle.proto_attr.specs.ProtoDescr.Say.{class_for, class_method_get}
-use Rattle.proto_attr.specs.NativeCalls.Say.{class_method_by_name}
-use Rattle.proto_attr.proofs.NativeCalls.Steps.{class-does, ends-does}
+use Rattle.proto_attr.proofs.Lemmas.{◌∙◌, ap, Some, Option, Err, PyObjectRef, PlainWorld, Said, datum_at, bindings, plain, [], Get, known_text, Asks, DoGetAttr, ReadObjects, ToAttribute, of_task, IsNode, all-append, class_for, class_method_get, class_method_by_name, class-does, ends-does}
+use Rattle.std.proofs.Common.{◌∷◌}
 use Rattle.proto_attr.proofs.native_calls.bind.class_method_by_name.Goals as goal
 
 abbrev go : PlainWorld → PyObjectRef → PyObjectRef → Option PyObjectRef → Said

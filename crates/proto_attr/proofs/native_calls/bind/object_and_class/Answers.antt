@@ -1,6 +1,4 @@
-use Rattle.std.proofs.Common.{◌∙◌, Some, None, arith}
-use Rattle.class_world.specs.Reading.{bindings}
-use Rattle.proto_attr.proofs.NativeCalls.Lists.{get-one, get-two}
+use Rattle.proto_attr.proofs.Lemmas.{◌∙◌, Some, None, arith, bindings, get-one, get-two}
 use Rattle.proto_attr.proofs.native_calls.bind.object_and_class.Goals as goal
 
 pub returns-in-Err-clause-refused : goal.returns-in-Err-clause-refused

@@ -1,9 +1,4 @@
-use Rattle.std.proofs.Common.{◌∙◌, Option}
-use Rattle.py_node.specs.declared.refs.PyObjectRef.{PyObjectRef}
-use Rattle.plain_machine.specs.Plain.{PlainWorld, Said}
-use Rattle.plain_machine.specs.World.{datum_at}
-use Rattle.class_world.specs.Reading.{plain}
-use Rattle.proto_attr.specs.ProtoDescr.Say.{static_method_get}
+use Rattle.proto_attr.proofs.Lemmas.{◌∙◌, Option, PyObjectRef, PlainWorld, Said, datum_at, plain, static_method_get}
 use Rattle.proto_attr.proofs.native_calls.bind.static_method_by_name.Goals as goal
 
 abbrev go : PlainWorld → PyObjectRef → PyObjectRef → Option PyObjectRef → Said

@@ -1,7 +1,4 @@
-use Rattle.std.proofs.Common.{◌∙◌, sym, subst, arith}
-use Rattle.class_world.proofs.Items.{item_holds}
-use Rattle.class_world.specs.Sound.{AreNodes, Holds}
-use Rattle.proto_attr.proofs.NativeCalls.Lists.{rest-is, rest-nodes}
+use Rattle.proto_attr.proofs.Lemmas.{◌∙◌, sym, subst, arith, item_holds, AreNodes, Holds, rest-is, rest-nodes}
 use Rattle.proto_attr.proofs.native_calls.call.call_by_name.Goals as goal
 
 pub called_task-requires : goal.called_task-requires

@@ -1,7 +1,4 @@
-use Rattle.std.proofs.Common.{sym, subst}
-use Rattle.class_world.proofs.Growth.{grows-itself}
-use Rattle.class_world.specs.Sound.{AllHold, AreNodes, Holds}
-use Rattle.proto_attr.proofs.NativeCalls.Lists.{after-two-hold, without-more}
+use Rattle.proto_attr.proofs.Lemmas.{sym, subst, grows-itself, AllHold, AreNodes, Holds, after-two-hold, without-more}
 use Rattle.proto_attr.proofs.native_calls.create.new_by_name.Goals as goal
 
 pub returns-in_ok-rest-in-Some-Some-clause-safe : goal.returns-in_ok-rest-in-Some-Some-clause-safe

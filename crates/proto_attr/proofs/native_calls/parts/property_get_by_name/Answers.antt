@@ -1,11 +1,4 @@
-use Rattle.std.proofs.Common.{Some, Option}
-use Rattle.py_node.specs.declared.refs.PyObjectRef.{PyObjectRef}
-use Rattle.plain_machine.specs.Plain.{PlainWorld, Said}
-use Rattle.plain_machine.specs.World.{datum_at}
-use Rattle.class_world.specs.Reading.{bindings, plain}
-use Rattle.proto_attr.specs.ProtoDescr.Properties.{property_get}
-use Rattle.proto_attr.specs.NativeCalls.Say.{property_get_by_name}
-use Rattle.proto_attr.proofs.NativeCalls.Steps.{taken-steps}
+use Rattle.proto_attr.proofs.Lemmas.{Some, Option, PyObjectRef, PlainWorld, Said, datum_at, bindings, plain, property_get, property_get_by_name, taken-steps}
 use Rattle.proto_attr.proofs.native_calls.parts.property_get_by_name.Goals as goal
 
 abbrev go : PlainWorld → PyObjectRef → PyObjectRef → Option PyObjectRef → Said

@@ -1,6 +1,4 @@
-use Rattle.std.proofs.Common.{arith}
-use Rattle.class_world.proofs.Items.{item_holds}
-use Rattle.proto_attr.proofs.NativeCalls.Lists.{rest-hold}
+use Rattle.proto_attr.proofs.Lemmas.{arith, item_holds, rest-hold}
 use Rattle.proto_attr.proofs.native_calls.set.delete_by_name.Goals as goal
 
 pub set_as-requires : goal.set_as-requires

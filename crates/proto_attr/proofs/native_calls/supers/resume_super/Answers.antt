@@ -1,4 +1,4 @@
-use Rattle.proto_attr.proofs.NativeCalls.Steps.{super-resumes}
+use Rattle.proto_attr.proofs.Lemmas.{super-resumes}
 use Rattle.proto_attr.proofs.native_calls.supers.resume_super.Goals as goal
 
 pub returns-clause-goes : goal.returns-clause-goes

@@ -1,4 +1,4 @@
-use Rattle.proto_attr.proofs.NativeCalls.Lists.{rest-hold}
+use Rattle.proto_attr.proofs.Lemmas.{rest-hold}
 use Rattle.proto_attr.proofs.native_calls.supers.super_attribute_by_name.Goals as goal
 
 pub name_in-requires : goal.name_in-requires

@@ -1,11 +1,4 @@
-use Rattle.std.proofs.Common.{◌∙◌, Some, Option, Err, refl}
-use Rattle.py_node.specs.declared.refs.PyObjectRef.{PyObjectRef}
-use Rattle.plain_machine.specs.Plain.{PlainWorld, Said}
-use Rattle.plain_machine.specs.World.{datum_at}
-use Rattle.class_world.specs.Reading.{bindings, plain}
-use Rattle.proto_attr.specs.ProtoDescr.Supers.{super_get}
-use Rattle.proto_attr.specs.NativeCalls.Say.{super_get_by_name}
-use Rattle.proto_attr.proofs.NativeCalls.Steps.{ends-does, super-does}
+use Rattle.proto_attr.proofs.Lemmas.{◌∙◌, Some, Option, Err, refl, PyObjectRef, PlainWorld, Said, datum_at, bindings, plain, super_get, super_get_by_name, ends-does, super-does}
 use Rattle.proto_attr.proofs.native_calls.supers.super_get_by_name.Goals as goal
 
 abbrev go : PlainWorld → PyObjectRef → PyObjectRef → Option PyObjectRef → Said

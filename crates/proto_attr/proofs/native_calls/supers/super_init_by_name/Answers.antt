@@ -1,8 +1,4 @@
-use Rattle.std.proofs.Common.{◌∙◌, sym, subst, arith}
-use Rattle.class_world.proofs.Growth.{grows-itself}
-use Rattle.class_world.proofs.Items.{item_holds}
-use Rattle.class_world.specs.Sound.{AreNodes, Holds}
-use Rattle.proto_attr.proofs.NativeCalls.Lists.{rest-is, rest-nodes}
+use Rattle.proto_attr.proofs.Lemmas.{◌∙◌, sym, subst, arith, grows-itself, item_holds, AreNodes, Holds, rest-is, rest-nodes}
 use Rattle.proto_attr.proofs.native_calls.supers.super_init_by_name.Goals as goal
 
 pub returns-in_ok-rest-in-len1-up-clause-safe : goal.returns-in_ok-rest-in-len1-up-clause-safe

@@ -1,10 +1,5 @@
-use Rattle.std.proofs.Common.{◌≡◌, ◌∙◌, ℕ, Err, ap, subst}
-use Rattle.plain_machine.specs.Plain.{DoGetAttr, Said, ToAttribute}
-use Rattle.plain_machine.specs.Takes.{with_two}
-use Rattle.class_world.specs.Reading.{Reading, bindings, plain}
-use Rattle.row_kit.specs.TakeClasses.{with_heir}
-use Rattle.proto_attr.specs.NativeCalls.Say.{class_of_wrapper, doc_asked, wrapper_new}
-use Rattle.proto_attr.proofs.NativeCalls.Steps.{doc-does, ends-does}
+use Rattle.proto_attr.proofs.Lemmas.{◌∙◌, ℕ, Err, ap, subst, DoGetAttr, Said, ToAttribute, with_two, Reading, bindings, plain, with_heir, class_of_wrapper, doc_asked, wrapper_new, doc-does, ends-does}
+use Rattle.std.proofs.Common.{◌≡◌}
 use Rattle.proto_attr.proofs.native_calls.wrap.ask_for_doc.Goals as goal
 
 pub returns-in-Err-two-clause-goes : goal.returns-in-Err-two-clause-goes

@@ -1,7 +1,5 @@
-use Rattle.std.proofs.Common.{◌≡◌, take, fold}
-use Rattle.class_world.specs.Reading.{Reading, Reads, plain}
-use Rattle.class_world.specs.Sound.{Grows}
-use Rattle.proto_attr.specs.NativeDefs.Definitions.{with_method}
+use Rattle.proto_attr.proofs.Below.{take, fold, Reading, Reads, plain, Grows, with_method}
+use Rattle.std.proofs.Common.{◌≡◌}
 use Rattle.proto_attr.proofs.native_defs.extend.add_methods.Given as goal
 
 abbrev pub invariant-loop-def : goal.invariant-loop-def

@@ -1,7 +1,5 @@
-use Rattle.std.proofs.Common.{[], ◌∷◌}
-use Rattle.class_world.proofs.Claims.{all-append}
-use Rattle.class_world.specs.Claims.{of_task}
-use Rattle.class_world.specs.Sound.{IsNode}
+use Rattle.proto_attr.proofs.Lemmas.{[], all-append, of_task, IsNode}
+use Rattle.std.proofs.Common.{◌∷◌}
 use Rattle.proto_attr.proofs.native_details.abstracts.ask_setter.Goals as goal
 
 pub returns-in-Some-clause-safe : goal.returns-in-Some-clause-safe

@@ -1,14 +1,5 @@
-use Rattle.std.proofs.Common.{◌∙◌, [], ◌∷◌, false, ap, refl, sym}
-use Rattle.class_world.proofs.Claims.{all-append}
-use Rattle.class_world.specs.Claims.{of_task}
-use Rattle.class_world.specs.Reading.{bindings, plain}
-use Rattle.class_world.specs.Sound.{IsNode}
-use Rattle.plain_machine.specs.Plain.{DoBinary, ToOperator}
-use Rattle.plain_machine.specs.Row.{truth}
-use Rattle.plain_machine.specs.Takes.{with_one}
-use Rattle.py_node.specs.declared.task.PyNumberBinaryOp.TheVariants.{Or}
-use Rattle.proto_attr.specs.NativeDetails.Say.{abstract_by, listed}
-use Rattle.proto_attr.proofs.NativeDetails.Asking.{asks-getter, asks-setter, asks-both}
+use Rattle.proto_attr.proofs.Lemmas.{◌∙◌, [], false, ap, refl, sym, all-append, of_task, bindings, plain, IsNode, DoBinary, ToOperator, truth, with_one, Or, abstract_by, listed, asks-getter, asks-setter, asks-both}
+use Rattle.std.proofs.Common.{◌∷◌}
 use Rattle.proto_attr.proofs.native_details.abstracts.begin_abstract.Goals as goal
 
 pub returns-in-Some-clause-goes : goal.returns-in-Some-clause-goes

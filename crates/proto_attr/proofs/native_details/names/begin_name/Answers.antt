@@ -1,15 +1,9 @@
-use Rattle.std.proofs.Common.{◌∙◌, [], ◌∷◌, ap, refl}
+use Rattle.proto_attr.proofs.Lemmas.{◌∙◌, [], ap, refl, GetterOf, known_text, Asks, DoGetAttr, ReadObjects, ToAttribute, with_one, bindings, plain, spelled_option, name_known, name-asks}
+use Rattle.std.proofs.Common.{◌∷◌}
 use Rattle.py_node.specs.declared.built_in.BuiltIn.TheVariants.{MemberDescriptor}
-use Rattle.py_node.specs.declared.entry.NativeEntry.TheVariants.{GetterOf}
 use Rattle.py_node.specs.declared.known.Known.TheVariants as known
 use Rattle.py_node.specs.declared.task.AttributeTask.TheVariants as attribute
 use Rattle.py_node.specs.declared.task.Task.TheVariants as task
-use Rattle.py_node.specs.Known.{known_text}
-use Rattle.plain_machine.specs.Plain.{Asks, DoGetAttr, ReadObjects, ToAttribute}
-use Rattle.plain_machine.specs.Takes.{with_one}
-use Rattle.class_world.specs.Reading.{bindings, plain, spelled_option}
-use Rattle.proto_attr.specs.NativeDetails.Say.{name_known}
-use Rattle.proto_attr.proofs.NativeDetails.Named.{name-asks}
 use Rattle.proto_attr.proofs.native_details.names.begin_name.Goals as goal
 
 -- src/names.rt:29:1

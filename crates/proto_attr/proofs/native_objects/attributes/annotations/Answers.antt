@@ -1,7 +1,5 @@
-use Rattle.std.proofs.Common.{◌≡◌, true, ap, rules, ◌∙◌}
-use Rattle.class_world.specs.Reading.{plain, spelled}
-use Rattle.proto_attr.specs.NativeObjects.Attributes.{given_annotations}
-use Rattle.proto_attr.proofs.NativeObjects.Owned.{heap-annotations, new-annotations}
+use Rattle.proto_attr.proofs.Lemmas.{true, ap, rules, ◌∙◌, plain, spelled, given_annotations, heap-annotations, new-annotations}
+use Rattle.std.proofs.Common.{◌≡◌}
 use Rattle.proto_attr.proofs.native_objects.attributes.annotations.Goals as goal
 
 pub returns-in-Some-clause-ends : goal.returns-in-Some-clause-ends

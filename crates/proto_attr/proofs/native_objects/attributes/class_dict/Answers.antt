@@ -1,19 +1,5 @@
-use Rattle.std.proofs.Common.{[], ap, sym, subst, ◌∙◌}
-use Rattle.py_node.specs.BuiltIns.{place_of}
+use Rattle.proto_attr.proofs.Lemmas.{[], ap, sym, subst, ◌∙◌, place_of, class_at as class_numbered, entries_from, the_dict, ADict, bindings, datum, plain, AllHold, of_binding, of_each, grows-on, entries-themselves, keys-can, sized_made, class_dict, dict_made, keyed, ends-then, attrs-there}
 use Rattle.py_node.specs.declared.payload.Payload.TheVariants as payload
-use Rattle.class_model.specs.Class.{class_at as class_numbered}
-use Rattle.plain_machine.specs.Dicts.{entries_from}
-use Rattle.plain_machine.specs.Known.{the_dict}
-use Rattle.plain_machine.specs.Plain.{ADict}
-use Rattle.class_world.specs.Reading.{bindings, datum, plain}
-use Rattle.class_world.specs.Sound.{AllHold, of_binding, of_each}
-use Rattle.class_world.proofs.Growth.{grows-on}
-use Rattle.class_world.proofs.KeyEntries.{entries-themselves, keys-can}
-use Rattle.row_kit.specs.Say.{sized_made}
-use Rattle.proto_attr.specs.NativeObjects.Attributes.{class_dict, dict_made}
-use Rattle.row_kit.specs.ClassAttributes.{keyed}
-use Rattle.row_kit.proofs.ObjectsEnded.{ends-then}
-use Rattle.proto_attr.proofs.NativeObjects.Owned.{attrs-there}
 use Rattle.proto_attr.proofs.native_objects.attributes.class_dict.Goals as goal
 
 pub key_all-requires : goal.key_all-requires

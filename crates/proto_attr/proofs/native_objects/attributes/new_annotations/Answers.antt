@@ -1,11 +1,4 @@
-use Rattle.std.proofs.Common.{[], ap, ◌∙◌}
-use Rattle.py_node.specs.BuiltIns.{place_of}
-use Rattle.py_node.specs.Dicts.{PlainDict}
-use Rattle.plain_machine.specs.Known.{the_dict}
-use Rattle.plain_machine.specs.Plain.{ADict}
-use Rattle.plain_machine.specs.World.{with_node, with_own_attr}
-use Rattle.class_world.specs.Reading.{plain, spelled}
-use Rattle.class_world.proofs.DictChanges.{none-hold}
+use Rattle.proto_attr.proofs.Lemmas.{[], ap, ◌∙◌, place_of, PlainDict, the_dict, ADict, with_node, with_own_attr, plain, spelled, none-hold}
 use Rattle.proto_attr.proofs.native_objects.attributes.new_annotations.Goals as goal
 
 pub make_node-requires-clause-payload : goal.make_node-requires-clause-payload

@@ -1,11 +1,4 @@
-use Rattle.std.proofs.Common.{Some, Err, sym, ap, ◌∙◌}
-use Rattle.py_node.specs.Known.{known_text}
-use Rattle.plain_machine.specs.Change.{SetOwn}
-use Rattle.plain_machine.specs.Plain.{Ends}
-use Rattle.plain_machine.specs.Row.{fault}
-use Rattle.class_world.specs.Reading.{plain}
-use Rattle.proto_attr.specs.NativeObjects.Setters.{changes}
-use Rattle.proto_attr.proofs.NativeObjects.Setting.{refused}
+use Rattle.proto_attr.proofs.Lemmas.{Some, Err, sym, ap, ◌∙◌, known_text, SetOwn, Ends, fault, plain, changes, refused}
 use Rattle.proto_attr.proofs.native_objects.class_setters.set_own.Goals as goal
 
 pub returns-in-Err-Refused-clause-ends : goal.returns-in-Err-Refused-clause-ends

@@ -1,10 +1,4 @@
-use Rattle.std.proofs.Common.{sym, ap, ◌∙◌}
-use Rattle.std.specs.Prelude.{string_bytes}
-use Rattle.plain_machine.specs.Takes.{with_one}
-use Rattle.class_world.specs.Reading.{plain, bindings, spelled}
-use Rattle.row_kit.specs.Say.{in_length, text_made}
-use Rattle.proto_attr.specs.NativeObjects.Descriptors.{member_repr, member_text}
-use Rattle.row_kit.proofs.ObjectsEnded.{ends-after}
+use Rattle.proto_attr.proofs.Lemmas.{sym, ap, ◌∙◌, string_bytes, with_one, plain, bindings, spelled, in_length, text_made, member_repr, member_text, ends-after}
 use Rattle.proto_attr.proofs.native_objects.descriptors.member_repr.Goals as goal
 
 pub returns-clause-ends : goal.returns-clause-ends

@@ -1,9 +1,4 @@
-use Rattle.std.proofs.Common.{◌∙◌}
-use Rattle.plain_machine.specs.Takes.{with_one}
-use Rattle.class_world.specs.Reading.{plain, bindings}
-use Rattle.proto_attr.specs.NativeObjects.Details.{getter_of_say, part_given}
-use Rattle.proto_attr.specs.NativeObjects.DetailParts.{read_part}
-use Rattle.row_kit.proofs.ObjectsEnded.{ends-after}
+use Rattle.proto_attr.proofs.Lemmas.{◌∙◌, with_one, plain, bindings, getter_of_say, part_given, read_part, ends-after}
 use Rattle.proto_attr.proofs.native_objects.details.getter_of_native.Goals as goal
 
 pub returns-clause-ends : goal.returns-clause-ends

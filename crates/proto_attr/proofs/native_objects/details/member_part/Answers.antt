@@ -1,7 +1,4 @@
-use Rattle.std.proofs.Common.{sym, subst}
-use Rattle.py_node.specs.declared.payload.MemberDescriptor.{MemberDescriptor}
-use Rattle.class_world.specs.Sound.{AllHold, of_name_ref, of_option}
-use Rattle.class_world.proofs.Claims.{all-first, all-rest}
+use Rattle.proto_attr.proofs.Lemmas.{sym, subst, MemberDescriptor, AllHold, of_name_ref, of_option, all-first, all-rest}
 use Rattle.proto_attr.proofs.native_objects.details.member_part.Goals as goal
 
 pub returns-in-Doc-clause-holds : goal.returns-in-Doc-clause-holds

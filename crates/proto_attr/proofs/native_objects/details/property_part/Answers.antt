@@ -1,7 +1,4 @@
-use Rattle.std.proofs.Common.{ap, subst, sym, ◌∙◌}
-use Rattle.py_node.specs.declared.payload.PyProperty.{PyProperty}
-use Rattle.class_world.specs.Sound.{AllHold, of_property}
-use Rattle.proto_attr.specs.NativeObjects.Details.{accessor_part}
+use Rattle.proto_attr.proofs.Lemmas.{ap, subst, sym, ◌∙◌, PyProperty, AllHold, of_property, accessor_part}
 use Rattle.proto_attr.proofs.native_objects.details.property_part.Goals as goal
 
 pub returns-in-Property-clause-part : goal.returns-in-Property-clause-part

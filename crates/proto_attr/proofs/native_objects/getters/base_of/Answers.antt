@@ -1,11 +1,5 @@
-use Rattle.std.proofs.Common.{◌≡◌, Some, None, sym, ap, ◌∙◌}
-use Rattle.std.specs.Prelude.{option_map}
-use Rattle.class_model.specs.Layout.{base}
-use Rattle.plain_machine.specs.World.{ref}
-use Rattle.class_world.specs.Sound.{Holds}
-use Rattle.class_world.specs.Reading.{plain}
-use Rattle.proto_attr.specs.NativeObjects.Details.{or_none}
-use Rattle.proto_attr.proofs.NativeObjects.Bases.{base-seen}
+use Rattle.proto_attr.proofs.Lemmas.{Some, None, sym, ap, ◌∙◌, option_map, base, ref, Holds, plain, or_none, base-seen}
+use Rattle.std.proofs.Common.{◌≡◌}
 use Rattle.proto_attr.proofs.native_objects.getters.base_of.Goals as goal
 
 pub base-requires : goal.base-requires

@@ -1,16 +1,6 @@
-use Rattle.std.proofs.Common.{sym, ap, ◌∙◌}
-use Rattle.py_node.specs.BuiltIns.{place_of}
+use Rattle.proto_attr.proofs.Lemmas.{sym, ap, ◌∙◌, place_of, numbers, the_tuple, ATuple, Holds, plain, datum, sized_made, class_read, tuple_made, bases-seen, ends-after}
 use Rattle.py_node.specs.declared.entry.Property.TheVariants as property
 use Rattle.py_node.specs.declared.payload.Payload.TheVariants as payload
-use Rattle.class_table.specs.Keys.{numbers}
-use Rattle.plain_machine.specs.Known.{the_tuple}
-use Rattle.plain_machine.specs.Plain.{ATuple}
-use Rattle.class_world.specs.Sound.{Holds}
-use Rattle.class_world.specs.Reading.{plain, datum}
-use Rattle.row_kit.specs.Say.{sized_made}
-use Rattle.proto_attr.specs.NativeObjects.Getters.{class_read, tuple_made}
-use Rattle.proto_attr.proofs.NativeObjects.Bases.{bases-seen}
-use Rattle.row_kit.proofs.ObjectsEnded.{ends-after}
 use Rattle.proto_attr.proofs.native_objects.getters.bases.Goals as goal
 
 pub bases-requires : goal.bases-requires

@@ -1,5 +1,4 @@
-use Rattle.class_world.proofs.Growth.{grows-itself}
-use Rattle.proto_attr.proofs.NativeObjects.Owned.{some-holds}
+use Rattle.proto_attr.proofs.Lemmas.{grows-itself, some-holds}
 use Rattle.proto_attr.proofs.native_objects.getters.dict_of_any.Goals as goal
 
 pub returns-in-None-clause-safe : goal.returns-in-None-clause-safe

@@ -1,9 +1,4 @@
-use Rattle.std.proofs.Common.{◌∙◌}
-use Rattle.class_world.specs.Reading.{bindings, plain}
-use Rattle.class_world.proofs.Growth.{grows-itself}
-use Rattle.proto_attr.specs.NativeObjects.Getters.{class_read, getter_say}
-use Rattle.row_kit.proofs.ObjectsEnded.{ends-after}
-use Rattle.proto_attr.proofs.NativeObjects.Followed.{of-classes}
+use Rattle.proto_attr.proofs.Lemmas.{◌∙◌, bindings, plain, grows-itself, class_read, getter_say, ends-after, of-classes}
 use Rattle.proto_attr.proofs.native_objects.getters.getter_native.Goals as goal
 
 pub returns-in-Err : goal.returns-in-Err

@@ -1,17 +1,6 @@
-use Rattle.std.proofs.Common.{refl, sym, ap, ◌∙◌}
-use Rattle.py_node.specs.BuiltIns.{place_of}
+use Rattle.proto_attr.proofs.Lemmas.{refl, sym, ap, ◌∙◌, place_of, lin-classes, numbers, the_tuple, ATuple, Holds, plain, datum, line-seen, sized_made, class_read, tuple_made, ends-after}
 use Rattle.py_node.specs.declared.entry.Property.TheVariants as property
 use Rattle.py_node.specs.declared.payload.Payload.TheVariants as payload
-use Rattle.class_model.proofs.Rule.{lin-classes}
-use Rattle.class_table.specs.Keys.{numbers}
-use Rattle.plain_machine.specs.Known.{the_tuple}
-use Rattle.plain_machine.specs.Plain.{ATuple}
-use Rattle.class_world.specs.Sound.{Holds}
-use Rattle.class_world.specs.Reading.{plain, datum}
-use Rattle.class_world.proofs.OfClasses.{line-seen}
-use Rattle.row_kit.specs.Say.{sized_made}
-use Rattle.proto_attr.specs.NativeObjects.Getters.{class_read, tuple_made}
-use Rattle.row_kit.proofs.ObjectsEnded.{ends-after}
 use Rattle.proto_attr.proofs.native_objects.getters.mro.Goals as goal
 
 pub mro-requires : goal.mro-requires

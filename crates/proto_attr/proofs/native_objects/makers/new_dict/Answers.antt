@@ -1,4 +1,4 @@
-use Rattle.class_world.proofs.DictChanges.{none-hold}
+use Rattle.proto_attr.proofs.Lemmas.{none-hold}
 use Rattle.proto_attr.proofs.native_objects.makers.new_dict.Goals as goal
 
 pub make_node-requires-clause-payload : goal.make_node-requires-clause-payload

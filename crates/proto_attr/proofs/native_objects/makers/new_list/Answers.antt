@@ -1,4 +1,4 @@
-use Rattle.class_world.proofs.Claims.{no-nodes}
+use Rattle.proto_attr.proofs.Lemmas.{no-nodes}
 use Rattle.proto_attr.proofs.native_objects.makers.new_list.Goals as goal
 
 pub make_node-requires-clause-payload : goal.make_node-requires-clause-payload

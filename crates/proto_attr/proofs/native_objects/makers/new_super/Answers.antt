@@ -1,12 +1,6 @@
-use Rattle.py_node.specs.BuiltIns.{place_of}
+use Rattle.proto_attr.proofs.Lemmas.{place_of, the_object, ASuper, plain, object_made, maker_say, ends-made}
 use Rattle.std.specs.Prelude.{None}
 use Rattle.py_node.specs.declared.built_in.BuiltIn.TheVariants as built_in
-use Rattle.plain_machine.specs.Known.{the_object}
-use Rattle.plain_machine.specs.Plain.{ASuper}
-use Rattle.class_world.specs.Reading.{plain}
-use Rattle.row_kit.specs.Say.{object_made}
-use Rattle.proto_attr.specs.NativeObjects.Makers.{maker_say}
-use Rattle.proto_attr.proofs.NativeObjects.Ended.{ends-made}
 use Rattle.proto_attr.proofs.native_objects.makers.new_super.Goals as goal
 
 pub returns-in_ok-node-in-Ok-clause-ends : goal.returns-in_ok-node-in-Ok-clause-ends

@@ -1,5 +1,4 @@
-use Rattle.py_node.specs.declared.built_in.BuiltIn.TheVariants.{Property}
-use Rattle.proto_attr.proofs.NativeObjects.Held.{class-of}
+use Rattle.proto_attr.proofs.Lemmas.{Property, class-of}
 use Rattle.proto_attr.proofs.native_objects.property.class_of_property.Goals as goal
 
 pub returns-clause-of : goal.returns-clause-of

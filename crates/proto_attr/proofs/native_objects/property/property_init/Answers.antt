@@ -1,6 +1,4 @@
-use Rattle.std.proofs.Common.{subst, sym}
-use Rattle.class_world.specs.Sound.{AllHold, of_property}
-use Rattle.proto_attr.proofs.NativeObjects.Parts.{placed-hold, name-holds}
+use Rattle.proto_attr.proofs.Lemmas.{subst, sym, AllHold, of_property, placed-hold, name-holds}
 use Rattle.proto_attr.proofs.native_objects.property.property_init.Goals as goal
 
 pub with_parts-requires-clause-parts : goal.with_parts-requires-clause-parts

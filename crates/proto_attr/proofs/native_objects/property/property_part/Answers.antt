@@ -1,7 +1,4 @@
-use Rattle.std.proofs.Common.{subst, sym, ap, ◌∙◌}
-use Rattle.class_world.specs.Sound.{AllHold, of_property}
-use Rattle.proto_attr.specs.NativeObjects.Descriptors.{part_set}
-use Rattle.proto_attr.proofs.NativeObjects.Parts.{set-holds}
+use Rattle.proto_attr.proofs.Lemmas.{subst, sym, ap, ◌∙◌, AllHold, of_property, part_set, set-holds}
 use Rattle.proto_attr.proofs.native_objects.property.property_part.Goals as goal
 
 pub make_node-requires-clause-payload : goal.make_node-requires-clause-payload

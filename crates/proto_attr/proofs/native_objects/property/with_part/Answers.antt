@@ -1,4 +1,4 @@
-use Rattle.class_world.specs.Sound.{Holds}
+use Rattle.proto_attr.proofs.Lemmas.{Holds}
 use Rattle.proto_attr.proofs.native_objects.property.with_part.Goals as goal
 
 pub text-requires : goal.text-requires

@@ -1,4 +1,4 @@
-use Rattle.proto_attr.proofs.NativeObjects.Parts.{keyword-holds}
+use Rattle.proto_attr.proofs.Lemmas.{keyword-holds}
 use Rattle.proto_attr.proofs.native_objects.property.with_parts.Goals as goal
 
 pub with_part-requires-clause-name : goal.with_part-requires-clause-name

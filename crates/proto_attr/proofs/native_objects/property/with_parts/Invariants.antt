@@ -1,7 +1,5 @@
-use Rattle.std.proofs.Common.{◌≡◌, drop, Some}
-use Rattle.class_world.specs.Reading.{Reading, Reads, bindings}
-use Rattle.class_world.specs.Sound.{AllHold, of_property}
-use Rattle.proto_attr.specs.NativeObjects.Descriptors.{with_parts}
+use Rattle.proto_attr.proofs.Below.{drop, Some, Reading, Reads, bindings, AllHold, of_property, with_parts}
+use Rattle.std.proofs.Common.{◌≡◌}
 use Rattle.proto_attr.proofs.native_objects.property.with_parts.Given as goal
 
 abbrev pub invariant-loop-pair : goal.invariant-loop-pair

@@ -1,4 +1,4 @@
-use Rattle.proto_attr.proofs.NativeObjects.Parts.{parts-hold}
+use Rattle.proto_attr.proofs.Lemmas.{parts-hold}
 use Rattle.proto_attr.proofs.native_objects.property.without_none.Goals as goal
 
 pub returns-clause-holds : goal.returns-clause-holds

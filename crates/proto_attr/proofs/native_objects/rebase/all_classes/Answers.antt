@@ -1,5 +1,4 @@
-use Rattle.std.proofs.Common.{add-one}
-use Rattle.proto_attr.proofs.NativeObjects.Collected.{collecting-step}
+use Rattle.proto_attr.proofs.Lemmas.{add-one, collecting-step}
 use Rattle.proto_attr.proofs.native_objects.rebase.all_classes.Goals as goal
 
 pub loop-node-preserved : goal.loop-node-preserved

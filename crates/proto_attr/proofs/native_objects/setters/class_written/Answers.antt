@@ -1,4 +1,4 @@
-use Rattle.class_world.proofs.Growth.{grows-itself}
+use Rattle.proto_attr.proofs.Lemmas.{grows-itself}
 use Rattle.proto_attr.proofs.native_objects.setters.class_written.Goals as goal
 
 pub returns-in-Dict-clause-safe : goal.returns-in-Dict-clause-safe

@@ -1,9 +1,4 @@
-use Rattle.std.proofs.Common.{◌∙◌}
-use Rattle.class_world.specs.Reading.{bindings, plain}
-use Rattle.class_world.proofs.Growth.{grows-itself}
-use Rattle.proto_attr.specs.NativeObjects.Setters.{class_written, setter_say}
-use Rattle.row_kit.proofs.ObjectsEnded.{ends-after}
-use Rattle.proto_attr.proofs.NativeObjects.Setting.{set-of-classes}
+use Rattle.proto_attr.proofs.Lemmas.{◌∙◌, bindings, plain, grows-itself, class_written, setter_say, ends-after, set-of-classes}
 use Rattle.proto_attr.proofs.native_objects.setters.setter_native.Goals as goal
 
 pub returns-in-Err : goal.returns-in-Err

@@ -1,6 +1,4 @@
-use Rattle.std.proofs.Common.{◌∙◌}
-use Rattle.class_world.specs.Reading.{bindings, plain}
-use Rattle.proto_attr.specs.NativeObjects.Takes.{with_one_or_two}
+use Rattle.proto_attr.proofs.Lemmas.{◌∙◌, bindings, plain, with_one_or_two}
 use Rattle.proto_attr.proofs.native_objects.take.class_and_given.Goals as goal
 
 pub returns-in-Err-one_or_two-clause-refused : goal.returns-in-Err-one_or_two-clause-refused

@@ -1,6 +1,4 @@
-use Rattle.std.proofs.Common.{Some, None, ◌∙◌}
-use Rattle.class_world.specs.Reading.{bindings}
-use Rattle.proto_attr.proofs.NativeObjects.Setting.{one-given, two-given}
+use Rattle.proto_attr.proofs.Lemmas.{Some, None, ◌∙◌, bindings, one-given, two-given}
 use Rattle.proto_attr.proofs.native_objects.take.one_or_two.Goals as goal
 
 pub returns-in-Err-clause-refused : goal.returns-in-Err-clause-refused

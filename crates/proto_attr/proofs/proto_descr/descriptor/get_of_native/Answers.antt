@@ -1,10 +1,5 @@
 use Rattle.py_node.specs.declared.task.DescriptorTask.TheVariants as descriptor
-use Rattle.plain_machine.specs.Plain.{PlainWorld}
-use Rattle.plain_machine.specs.World.{datum_at}
-use Rattle.class_world.specs.Reading.{Reading, plain}
-use Rattle.proto_attr.specs.ProtoDescr.Say.{native_get}
-use Rattle.proto_attr.specs.ProtoDescr.Rows.{described}
-use Rattle.proto_attr.proofs.ProtoDescr.Steps.{closes-starts}
+use Rattle.proto_attr.proofs.Lemmas.{PlainWorld, datum_at, Reading, plain, native_get, described, closes-starts}
 use Rattle.proto_attr.proofs.proto_descr.descriptor.get_of_native.Goals as goal
 
 pub returns-clause-goes : goal.returns-clause-goes

@@ -1,6 +1,4 @@
-use Rattle.plain_machine.specs.World.{datum_at}
-use Rattle.proto_attr.specs.ProtoDescr.Properties.{property_get}
-use Rattle.proto_attr.proofs.ProtoDescr.Steps.{passed-starts}
+use Rattle.proto_attr.proofs.Lemmas.{datum_at, property_get, passed-starts}
 use Rattle.proto_attr.proofs.proto_descr.property.get_of_property.Goals as goal
 
 pub returns-clause-goes : goal.returns-clause-goes

@@ -1,4 +1,4 @@
-use Rattle.proto_attr.proofs.ProtoDescr.Steps.{closed-begins}
+use Rattle.proto_attr.proofs.Lemmas.{closed-begins}
 use Rattle.proto_attr.proofs.proto_descr.setting.descr_set.Goals as goal
 
 pub returns-clause-goes : goal.returns-clause-goes

@@ -1,12 +1,5 @@
-use Rattle.std.proofs.Common.{ap, ◌≡◌, true, refl, sym, subst, ◌∙◌}
-use Rattle.std.specs.Prelude.{option_and_then}
-use Rattle.class_model.specs.Class.{along, is_class, lin}
-use Rattle.plain_machine.specs.World.{is_text}
-use Rattle.class_world.specs.Reading.{plain, spelled}
-use Rattle.class_world.specs.Sound.{Holds}
-use Rattle.class_world.proofs.OfClasses.{line-seen}
-use Rattle.proto_attr.specs.ProtoDescr.Supers.{after}
-use Rattle.proto_attr.proofs.ProtoDescr.Lines.{line-classes}
+use Rattle.proto_attr.proofs.Lemmas.{ap, true, refl, sym, subst, ◌∙◌, option_and_then, along, is_class, lin, is_text, plain, spelled, Holds, line-seen, after, line-classes}
+use Rattle.std.proofs.Common.{◌≡◌}
 use Rattle.proto_attr.proofs.proto_descr.super_get.find_after.Goals as goal
 
 pub mro-requires : goal.mro-requires

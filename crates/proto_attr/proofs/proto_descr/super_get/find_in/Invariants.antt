@@ -1,10 +1,5 @@
-use Rattle.std.proofs.Common.{◌≡◌, drop}
-use Rattle.class_model.specs.Class.{along}
-use Rattle.class_table.specs.Keys.{numbers}
-use Rattle.plain_machine.specs.World.{is_text}
-use Rattle.class_world.specs.Reading.{Reading, Reads, plain, spelled}
-use Rattle.proto_attr.specs.ProtoDescr.Supers.{after}
-use Rattle.proto_attr.specs.ProtoDescr.Rows.{remaining}
+use Rattle.proto_attr.proofs.Below.{drop, along, numbers, is_text, Reading, Reads, plain, spelled, after, remaining}
+use Rattle.std.proofs.Common.{◌≡◌}
 use Rattle.proto_attr.proofs.proto_descr.super_get.find_in.Given as goal
 
 abbrev pub invariant-loop-member : goal.invariant-loop-member

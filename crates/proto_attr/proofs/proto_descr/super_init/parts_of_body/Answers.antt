@@ -1,7 +1,4 @@
-use Rattle.std.proofs.Common.{arith, ap, subst, sym, ◌∙◌}
-use Rattle.py_node.specs.declared.payload.Function.{Function}
-use Rattle.class_world.specs.Sound.{AreNames, Holds}
-use Rattle.proto_attr.proofs.ProtoDescr.Names.{name_holds}
+use Rattle.proto_attr.proofs.Lemmas.{arith, ap, subst, sym, ◌∙◌, Function, AreNames, Holds, name_holds}
 use Rattle.proto_attr.proofs.proto_descr.super_init.parts_of_body.Goals as goal
 
 pub local-requires : goal.local-requires

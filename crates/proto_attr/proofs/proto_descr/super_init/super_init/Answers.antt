@@ -1,10 +1,5 @@
-use Rattle.std.proofs.Common.{◌≡◌, ◌∙◌, [], ap, subst, sym}
-use Rattle.plain_machine.specs.Plain.{DoSuperInit}
-use Rattle.class_world.specs.Reading.{plain}
-use Rattle.class_world.specs.Rows.{Steps}
-use Rattle.proto_attr.specs.ProtoDescr.Say.{descriptor_say}
-use Rattle.proto_attr.specs.ProtoDescr.Supers.{init_by, super_parts}
-use Rattle.proto_attr.specs.ProtoDescr.Rows.{descriptor_stands, parts_of}
+use Rattle.proto_attr.proofs.Lemmas.{◌∙◌, [], ap, subst, sym, DoSuperInit, plain, Steps, descriptor_say, init_by, super_parts, descriptor_stands, parts_of}
+use Rattle.std.proofs.Common.{◌≡◌}
 use Rattle.proto_attr.proofs.proto_descr.super_init.super_init.Goals as goal
 
 pub returns-clause-goes : goal.returns-clause-goes

@@ -1,7 +1,5 @@
-use Rattle.std.proofs.Common.{[], ◌∷◌}
-use Rattle.class_world.specs.Claims.{of_task}
-use Rattle.class_world.specs.Sound.{IsNode}
-use Rattle.class_world.proofs.Claims.{all-append}
+use Rattle.proto_attr.proofs.Lemmas.{[], of_task, IsNode, all-append}
+use Rattle.std.proofs.Common.{◌∷◌}
 use Rattle.proto_attr.proofs.proto_descr.wrapped.get_of_class_method.Goals as goal
 
 pub returns-in-ClassMethod-clause-safe : goal.returns-in-ClassMethod-clause-safe

@@ -1,6 +1,4 @@
-use Rattle.plain_machine.specs.World.{datum_at}
-use Rattle.proto_attr.specs.ProtoDescr.Say.{getset_get}
-use Rattle.proto_attr.proofs.ProtoDescr.Steps.{passed-starts}
+use Rattle.proto_attr.proofs.Lemmas.{datum_at, getset_get, passed-starts}
 use Rattle.proto_attr.proofs.proto_descr.wrapped.get_of_getset.Goals as goal
 
 pub returns-clause-goes : goal.returns-clause-goes

@@ -1,4 +1,4 @@
-use Rattle.proto_attr.proofs.ProtoDescr.Steps.{passed-resumes}
+use Rattle.proto_attr.proofs.Lemmas.{passed-resumes}
 use Rattle.proto_attr.proofs.proto_descr.wrapped.resume_class_method.Goals as goal
 
 pub returns-clause-goes : goal.returns-clause-goes

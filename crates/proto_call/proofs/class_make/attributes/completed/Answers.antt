@@ -1,8 +1,5 @@
-use Rattle.std.proofs.Common.{ap, ◌∙◌}
+use Rattle.proto_call.proofs.Lemmas.{ap, ◌∙◌, known_text, grows-on, completed, wrap, qualify, unhash}
 use Rattle.py_node.specs.declared.known.Known.TheVariants as known
-use Rattle.py_node.specs.Known.{known_text}
-use Rattle.class_world.proofs.Growth.{grows-on}
-use Rattle.proto_call.specs.ClassMake.Say.{completed, wrap, qualify, unhash}
 use Rattle.proto_call.proofs.class_make.attributes.completed.Goals as goal
 
 pub returns-clause-becomes : goal.returns-clause-becomes

@@ -1,8 +1,4 @@
-use Rattle.std.proofs.Common.{true, false, ◌∙◌}
-use Rattle.class_table.specs.Keys.{numbers}
-use Rattle.class_world.specs.NewHeap.{slot_texts}
-use Rattle.class_world.specs.Reading.{bindings, plain}
-use Rattle.proto_call.proofs.ClassMake.Spaces.{dict-wanted}
+use Rattle.proto_call.proofs.Lemmas.{true, false, ◌∙◌, numbers, slot_texts, bindings, plain, dict-wanted}
 use Rattle.proto_call.proofs.class_make.attributes.dicted.Goals as goal
 
 pub returns-then-not-would_have_dict-clause-becomes : goal.returns-then-not-would_have_dict-clause-becomes

@@ -1,6 +1,4 @@
-use Rattle.std.proofs.Common.{sym, ◌∙◌}
-use Rattle.class_world.specs.Reading.{plain, bindings, datum}
-use Rattle.proto_call.proofs.ClassMake.Spaces.{give-had, give-new}
+use Rattle.proto_call.proofs.Lemmas.{sym, ◌∙◌, plain, bindings, datum, give-had, give-new}
 use Rattle.proto_call.proofs.class_make.attributes.give.Goals as goal
 
 pub returns-then-contains-clause-becomes : goal.returns-then-contains-clause-becomes

@@ -1,7 +1,4 @@
-use Rattle.std.proofs.Common.{refl}
-use Rattle.py_node.specs.BuiltIns.{place_of}
-use Rattle.class_world.specs.Reading.{plain, bindings}
-use Rattle.proto_call.proofs.ClassMake.Spaces.{dict-given}
+use Rattle.proto_call.proofs.Lemmas.{refl, place_of, plain, bindings, dict-given}
 use Rattle.proto_call.proofs.class_make.attributes.give_dict.Goals as goal
 
 pub returns-clause-becomes : goal.returns-clause-becomes

@@ -1,6 +1,4 @@
-use Rattle.std.proofs.Common.{sym, ap, ◌∙◌, is_some}
-use Rattle.py_node.specs.Known.{known_text}
-use Rattle.proto_call.proofs.ClassMake.Spaces.{has-read}
+use Rattle.proto_call.proofs.Lemmas.{sym, ap, ◌∙◌, is_some, known_text, has-read}
 use Rattle.proto_call.proofs.class_make.attributes.has_name.Goals as goal
 
 pub returns : goal.returns

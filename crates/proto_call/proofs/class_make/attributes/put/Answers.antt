@@ -1,6 +1,4 @@
-use Rattle.proto_call.proofs.ClassMake.Spaces.{put-goes, insert-holds}
-use Rattle.class_world.specs.Reading.{plain, datum}
-use Rattle.class_world.specs.Sound.{IsName}
+use Rattle.proto_call.proofs.Lemmas.{put-goes, insert-holds, plain, datum, IsName}
 use Rattle.proto_call.proofs.class_make.attributes.put.Goals as goal
 
 pub returns-clause-becomes : goal.returns-clause-becomes

@@ -1,7 +1,4 @@
-use Rattle.std.proofs.Common.{refl, string_bytes}
-use Rattle.py_node.specs.BuiltIns.{place_of}
-use Rattle.class_world.specs.Reading.{plain, bindings}
-use Rattle.proto_call.proofs.ClassMake.Spaces.{qualified}
+use Rattle.proto_call.proofs.Lemmas.{refl, string_bytes, place_of, plain, bindings, qualified}
 use Rattle.proto_call.proofs.class_make.attributes.qualify.Goals as goal
 
 pub returns-clause-becomes : goal.returns-clause-becomes

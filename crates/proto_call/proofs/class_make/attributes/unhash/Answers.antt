@@ -1,7 +1,4 @@
-use Rattle.std.proofs.Common.{refl, sym, ◌∙◌}
-use Rattle.class_world.specs.Reading.{plain}
-use Rattle.class_world.proofs.Growth.{grows-itself}
-use Rattle.proto_call.proofs.ClassMake.Spaces.{unhash-kept, unhash-new, insert-holds}
+use Rattle.proto_call.proofs.Lemmas.{refl, sym, ◌∙◌, plain, grows-itself, unhash-kept, unhash-new, insert-holds}
 use Rattle.proto_call.proofs.class_make.attributes.unhash.Goals as goal
 
 pub returns-then-not-is_unhashed-clause-becomes : goal.returns-then-not-is_unhashed-clause-becomes

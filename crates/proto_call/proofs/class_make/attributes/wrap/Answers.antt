@@ -1,8 +1,4 @@
-use Rattle.std.proofs.Common.{refl}
-use Rattle.py_node.specs.Known.{known_text}
-use Rattle.class_world.specs.Reading.{plain, bindings}
-use Rattle.class_world.proofs.Growth.{grows-itself}
-use Rattle.proto_call.proofs.ClassMake.Spaces.{wrapped, value-there}
+use Rattle.proto_call.proofs.Lemmas.{refl, known_text, plain, bindings, grows-itself, wrapped, value-there}
 use Rattle.proto_call.proofs.class_make.attributes.wrap.Goals as goal
 
 pub wrap_value-requires-clause-value : goal.wrap_value-requires-clause-value

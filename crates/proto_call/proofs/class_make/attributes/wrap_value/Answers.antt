@@ -1,7 +1,4 @@
-use Rattle.std.proofs.Common.{◌∙◌}
-use Rattle.py_node.specs.BuiltIns.{place_of}
-use Rattle.class_world.specs.Reading.{plain, bindings}
-use Rattle.proto_call.proofs.ClassMake.Spaces.{wrap-kept, wrap-put}
+use Rattle.proto_call.proofs.Lemmas.{◌∙◌, place_of, plain, bindings, wrap-kept, wrap-put}
 use Rattle.proto_call.proofs.class_make.attributes.wrap_value.Goals as goal
 
 pub returns-then-not-is_function-clause-becomes : goal.returns-then-not-is_function-clause-becomes

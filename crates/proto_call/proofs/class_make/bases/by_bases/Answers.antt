@@ -1,14 +1,5 @@
-use Rattle.std.proofs.Common.{◌∙◌, eqb, [], ◌∷◌, ap, sym, string_bytes}
-use Rattle.std.specs.Prelude.{option_map}
-use Rattle.py_node.specs.BuiltIns.{place_of}
-use Rattle.py_node.specs.declared.known.Known.TheVariants.{MroEntries}
-use Rattle.py_node.specs.Known.{known_text}
-use Rattle.class_table.specs.Keys.{numbers}
-use Rattle.plain_machine.specs.Plain.{Asks, Chose, DoGetAttr, ToAttribute}
-use Rattle.class_world.specs.Reading.{plain, bindings}
-use Rattle.proto_call.specs.ClassMake.Say.{by_bases, by_winner, classes_of, on_bases, winner}
-use Rattle.proto_call.proofs.ClassMake.Making.{goes-from, makes-from}
-use Rattle.proto_call.proofs.ClassMake.Parts.{none-goes, other-goes, classes-go}
+use Rattle.proto_call.proofs.Lemmas.{◌∙◌, eqb, [], ap, sym, string_bytes, option_map, place_of, MroEntries, known_text, numbers, Asks, Chose, DoGetAttr, ToAttribute, plain, bindings, by_bases, by_winner, classes_of, on_bases, winner, goes-from, makes-from, none-goes, other-goes, classes-go}
+use Rattle.std.proofs.Common.{◌∷◌}
 use Rattle.proto_call.proofs.class_make.bases.by_bases.Goals as goal
 
 pub returns-then-is_empty-clause-goes : goal.returns-then-is_empty-clause-goes

@@ -1,10 +1,4 @@
-use Rattle.std.proofs.Common.{◌∙◌, ap, string_bytes}
-use Rattle.std.specs.Prelude.{option_map}
-use Rattle.class_table.specs.Keys.{numbers}
-use Rattle.class_world.specs.Reading.{plain, bindings}
-use Rattle.proto_call.specs.ClassMake.Say.{by_winner, on_bases}
-use Rattle.proto_call.proofs.ClassMake.Making.{goes-from}
-use Rattle.proto_call.proofs.ClassMake.Parts.{winner-goes}
+use Rattle.proto_call.proofs.Lemmas.{◌∙◌, ap, string_bytes, option_map, numbers, plain, bindings, by_winner, on_bases, goes-from, winner-goes}
 use Rattle.proto_call.proofs.class_make.bases.by_winner.Goals as goal
 
 pub returns-else-makes_itself-clause-goes : goal.returns-else-makes_itself-clause-goes

@@ -1,6 +1,4 @@
-use Rattle.std.proofs.Common.{add-one}
-use Rattle.proto_call.proofs.ClassMake.Making.{node-at}
-use Rattle.proto_call.proofs.ClassMake.EachBase.{classing-step}
+use Rattle.proto_call.proofs.Lemmas.{add-one, node-at, classing-step}
 use Rattle.proto_call.proofs.class_make.bases.classes_of.Goals as goal
 
 pub class_number-requires : goal.class_number-requires

@@ -1,14 +1,4 @@
-use Rattle.std.proofs.Common.{◌∙◌, ap, sym, refl, string_bytes}
-use Rattle.std.specs.Prelude.{option_map}
-use Rattle.plain_machine.specs.Plain.{Ends}
-use Rattle.plain_machine.specs.Row.{fault}
-use Rattle.class_table.specs.Keys.{numbers}
-use Rattle.class_table.specs.Refused.{refused_layout}
-use Rattle.class_world.specs.Reading.{plain, bindings}
-use Rattle.class_world.proofs.Claims.{all-grow}
-use Rattle.proto_call.specs.ClassMake.Say.{on_bases, with_namespace}
-use Rattle.proto_call.proofs.ClassMake.Making.{goes-from, makes-from}
-use Rattle.proto_call.proofs.ClassMake.Parts.{bases-read, bases-refused}
+use Rattle.proto_call.proofs.Lemmas.{◌∙◌, ap, sym, refl, string_bytes, option_map, Ends, fault, numbers, refused_layout, plain, bindings, all-grow, on_bases, with_namespace, goes-from, makes-from, bases-read, bases-refused}
 use Rattle.proto_call.proofs.class_make.bases.on_bases.Goals as goal
 
 pub with_namespace-requires-clause-kw : goal.with_namespace-requires-clause-kw

@@ -1,6 +1,4 @@
-use Rattle.std.proofs.Common.{refl, add-one, arith}
-use Rattle.proto_call.proofs.ClassMake.Making.{node-at}
-use Rattle.proto_call.proofs.ClassMake.EachBase.{winning-step, winning-none, winning-ends, node-holds}
+use Rattle.proto_call.proofs.Lemmas.{refl, add-one, arith, node-at, winning-step, winning-none, winning-ends, node-holds}
 use Rattle.proto_call.proofs.class_make.bases.winner.Goals as goal
 
 pub loop-base-init : goal.loop-base-init

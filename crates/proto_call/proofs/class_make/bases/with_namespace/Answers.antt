@@ -1,12 +1,4 @@
-use Rattle.std.proofs.Common.{◌∙◌, ap, sym, string_bytes}
-use Rattle.std.specs.Prelude.{option_map}
-use Rattle.class_table.specs.Keys.{numbers}
-use Rattle.class_table.specs.Refused.{refused_layout}
-use Rattle.class_world.specs.Reading.{plain, bindings}
-use Rattle.class_world.proofs.Claims.{all-grow}
-use Rattle.proto_call.specs.ClassMake.Say.{completed, made, with_namespace}
-use Rattle.proto_call.proofs.ClassMake.Making.{goes-from}
-use Rattle.proto_call.proofs.ClassMake.Spaces.{completed-classes}
+use Rattle.proto_call.proofs.Lemmas.{◌∙◌, ap, sym, string_bytes, option_map, numbers, refused_layout, plain, bindings, all-grow, completed, made, with_namespace, goes-from, completed-classes}
 use Rattle.proto_call.proofs.class_make.bases.with_namespace.Goals as goal
 
 pub made-requires-clause-kw : goal.made-requires-clause-kw

@@ -1,14 +1,4 @@
-use Rattle.std.proofs.Common.{◌∙◌, Some, ap, refl, sym, map, string_bytes}
-use Rattle.std.specs.Prelude.{option_map}
-use Rattle.class_table.specs.Keys.{numbers}
-use Rattle.class_table.specs.Refused.{refused_layout}
-use Rattle.py_node.specs.declared.raised.Cause.TheVariants.{SlotsType}
-use Rattle.plain_machine.specs.Plain.{Ends}
-use Rattle.plain_machine.specs.Row.{fault}
-use Rattle.class_world.specs.Reading.{bindings, plain, spelled}
-use Rattle.class_world.proofs.Claims.{all-grow}
-use Rattle.proto_call.specs.ClassMake.Say.{names_in, with_names, with_slots}
-use Rattle.proto_call.proofs.ClassMake.Making.{goes-from, makes-from}
+use Rattle.proto_call.proofs.Lemmas.{◌∙◌, Some, ap, refl, sym, map, string_bytes, option_map, numbers, refused_layout, SlotsType, Ends, fault, bindings, plain, spelled, all-grow, names_in, with_names, with_slots, goes-from, makes-from}
 use Rattle.proto_call.proofs.class_make.creation.by_names.Goals as goal
 
 pub returns-in-None-clause-goes : goal.returns-in-None-clause-goes

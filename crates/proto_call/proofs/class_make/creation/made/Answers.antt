@@ -1,14 +1,4 @@
-use Rattle.std.proofs.Common.{◌∙◌, None, Some, sym, subst, string_bytes}
-use Rattle.std.specs.Prelude.{IfSome}
-use Rattle.py_node.specs.declared.known.Known.TheVariants.{Slots}
-use Rattle.py_node.specs.Known.{known_text}
-use Rattle.class_table.specs.Keys.{numbers}
-use Rattle.class_world.specs.Reading.{bindings, plain}
-use Rattle.class_world.specs.Sound.{IsNode, Holds}
-use Rattle.class_world.proofs.Growth.{grows-itself}
-use Rattle.proto_call.specs.ClassMake.Say.{made, names_in, with_names, with_slots}
-use Rattle.proto_call.proofs.ClassMake.Making.{goes-from, made-slots}
-use Rattle.proto_call.proofs.ClassMake.Spaces.{has-read, value-there}
+use Rattle.proto_call.proofs.Lemmas.{◌∙◌, None, Some, sym, subst, string_bytes, IfSome, Slots, known_text, numbers, bindings, plain, IsNode, Holds, grows-itself, made, names_in, with_names, with_slots, goes-from, made-slots, has-read, value-there}
 use Rattle.proto_call.proofs.class_make.creation.made.Goals as goal
 
 pub returns-in-None-clause-goes : goal.returns-in-None-clause-goes

@@ -1,18 +1,4 @@
-use Rattle.std.proofs.Common.{◌∙◌, [], ap, refl, sym, length, map, None, Some, string_bytes}
-use Rattle.std.proofs.lemmas.List.{length-map}
-use Rattle.class_table.specs.Keys.{numbers}
-use Rattle.plain_machine.specs.Plain.{Ends, Made}
-use Rattle.plain_machine.specs.Row.{fault, noting}
-use Rattle.plain_machine.specs.World.{ref, text_keys, with_new_class}
-use Rattle.class_model.specs.Dict.{heap_class}
-use Rattle.class_world.specs.NewHeap.{slot_texts}
-use Rattle.class_world.specs.Reading.{plain, bindings, spelled}
-use Rattle.class_world.proofs.Growth.{grows-on}
-use Rattle.class_world.proofs.Claims.{all-grow}
-use Rattle.proto_call.specs.ClassMake.Say.{made_in, refusal, tell, with_own_members}
-use Rattle.proto_call.proofs.ClassMake.Making.{goes-from, makes-from, made-new, made-refused, refused-next, values-are, values-read}
-use Rattle.proto_call.proofs.ClassMake.Places.{made-own}
-use Rattle.proto_call.proofs.ClassMake.Telling.{made-goes}
+use Rattle.proto_call.proofs.Lemmas.{◌∙◌, [], ap, refl, sym, length, map, None, Some, string_bytes, length-map, numbers, Ends, Made, fault, noting, ref, text_keys, with_new_class, heap_class, slot_texts, plain, bindings, spelled, grows-on, all-grow, made_in, refusal, tell, with_own_members, goes-from, makes-from, made-new, made-refused, refused-next, values-are, values-read, made-own, made-goes}
 use Rattle.proto_call.proofs.class_make.creation.new_class.Goals as goal
 
 pub returns-in-Err-Refused-clause-goes : goal.returns-in-Err-Refused-clause-goes

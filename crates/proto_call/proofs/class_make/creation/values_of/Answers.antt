@@ -1,5 +1,5 @@
-use Rattle.std.proofs.Common.{add-one, ap, sym, ◌∙◌, [], ◌∷◌, ◌++◌}
-use Rattle.proto_call.proofs.ClassMake.Making.{map-got}
+use Rattle.proto_call.proofs.Lemmas.{add-one, ap, sym, ◌∙◌, [], map-got}
+use Rattle.std.proofs.Common.{◌∷◌, ◌++◌}
 use Rattle.proto_call.proofs.class_make.creation.values_of.Goals as goal
 
 pub loop-i-preserved : goal.loop-i-preserved

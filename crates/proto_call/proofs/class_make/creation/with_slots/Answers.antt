@@ -1,13 +1,4 @@
-use Rattle.std.proofs.Common.{◌∙◌, ap, string_bytes}
-use Rattle.class_table.specs.Keys.{numbers}
-use Rattle.class_table.specs.Refused.{refused_layout}
-use Rattle.class_world.specs.NewHeap.{slot_texts, of_slots}
-use Rattle.class_world.specs.Reading.{bindings, plain}
-use Rattle.class_world.proofs.Claims.{all-grow}
-use Rattle.class_world.proofs.Growth.{grows-on}
-use Rattle.proto_call.specs.ClassMake.Say.{dicted, made_in, with_slots}
-use Rattle.proto_call.proofs.ClassMake.Making.{goes-from}
-use Rattle.proto_call.proofs.ClassMake.Spaces.{dicted-classes}
+use Rattle.proto_call.proofs.Lemmas.{◌∙◌, ap, string_bytes, numbers, refused_layout, slot_texts, of_slots, bindings, plain, all-grow, grows-on, dicted, made_in, with_slots, goes-from, dicted-classes}
 use Rattle.proto_call.proofs.class_make.creation.with_slots.Goals as goal
 
 pub returns-clause-goes : goal.returns-clause-goes

@@ -1,13 +1,5 @@
-use Rattle.std.proofs.Common.{◌∙◌, ap, refl, [], ◌∷◌}
-use Rattle.py_node.specs.declared.known.Known.TheVariants.{Metaclass}
-use Rattle.py_node.specs.Known.{known_text}
-use Rattle.plain_machine.specs.Plain.{DoCall, ToCall}
-use Rattle.class_world.specs.Reading.{bindings}
-use Rattle.class_world.specs.Sound.{IsNode, AllHold, of_binding, of_each}
-use Rattle.class_world.proofs.Growth.{grows-itself}
-use Rattle.class_world.proofs.Claims.{all-append, no-nodes}
-use Rattle.proto_call.specs.ClassMake.Say.{class_job_say}
-use Rattle.proto_call.proofs.ClassMake.Making.{without-read, filter-holds}
+use Rattle.proto_call.proofs.Lemmas.{◌∙◌, ap, refl, [], Metaclass, known_text, DoCall, ToCall, bindings, IsNode, AllHold, of_binding, of_each, grows-itself, all-append, no-nodes, class_job_say, without-read, filter-holds}
+use Rattle.std.proofs.Common.{◌∷◌}
 use Rattle.proto_call.proofs.class_make.hook.call_hook.Goals as goal
 
 pub returns-clause-goes : goal.returns-clause-goes

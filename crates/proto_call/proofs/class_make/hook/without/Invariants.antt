@@ -1,5 +1,5 @@
-use Rattle.std.proofs.Common.{◌≡◌, ◌++◌, filter, not, drop}
-use Rattle.py_node.specs.Attributes.{is_same_name}
+use Rattle.proto_call.proofs.Below.{filter, not, drop, is_same_name}
+use Rattle.std.proofs.Common.{◌≡◌, ◌++◌}
 use Rattle.proto_call.proofs.class_make.hook.without.Given as goal
 
 abbrev pub invariant-loop-key : goal.invariant-loop-key

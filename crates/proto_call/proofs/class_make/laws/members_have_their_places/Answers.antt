@@ -1,5 +1,4 @@
-use Rattle.class_world.specs.Reading.{plain}
-use Rattle.proto_call.proofs.ClassMake.Places.{members-placed, members-solid, places-begin}
+use Rattle.proto_call.proofs.Lemmas.{plain, members-placed, members-solid, places-begin}
 use Rattle.proto_call.proofs.class_make.laws.members_have_their_places.Goals as goal
 
 pub returns-clause-begin : goal.returns-clause-begin

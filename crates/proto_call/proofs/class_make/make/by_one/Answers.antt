@@ -1,13 +1,4 @@
-use Rattle.std.proofs.Common.{◌∙◌, sym, subst, refl}
-use Rattle.std.specs.Prelude.{IfSome}
-use Rattle.plain_machine.specs.Row.{value, fault}
-use Rattle.plain_machine.specs.Plain.{Ends}
-use Rattle.py_node.specs.declared.raised.Cause.TheVariants.{TypeArgs}
-use Rattle.class_world.specs.Reading.{plain, bindings}
-use Rattle.class_world.specs.Sound.{IsNode, Holds}
-use Rattle.proto_call.specs.ClassMake.Say.{by_one, from_three}
-use Rattle.proto_call.proofs.ClassMake.Making.{goes-from, makes-from}
-use Rattle.proto_call.proofs.ClassMake.Parts.{class-of, no-type, from-args, three-hold}
+use Rattle.proto_call.proofs.Lemmas.{◌∙◌, sym, subst, refl, IfSome, value, fault, Ends, TypeArgs, plain, bindings, IsNode, Holds, by_one, from_three, goes-from, makes-from, class-of, no-type, from-args, three-hold}
 use Rattle.proto_call.proofs.class_make.make.by_one.Goals as goal
 
 pub from_three-requires-clause-three : goal.from_three-requires-clause-three

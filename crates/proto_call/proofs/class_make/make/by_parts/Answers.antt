@@ -1,10 +1,4 @@
-use Rattle.std.proofs.Common.{◌∙◌, ap, sym, string_bytes}
-use Rattle.std.specs.Prelude.{option_map}
-use Rattle.class_world.specs.Reading.{plain, bindings}
-use Rattle.proto_call.specs.ClassMake.Say.{by_bases, by_parts}
-use Rattle.row_kit.specs.Questions.{has_null}
-use Rattle.proto_call.proofs.ClassMake.Making.{goes-from}
-use Rattle.proto_call.proofs.ClassMake.Parts.{parts-go}
+use Rattle.proto_call.proofs.Lemmas.{◌∙◌, ap, sym, string_bytes, option_map, plain, bindings, by_bases, by_parts, has_null, goes-from, parts-go}
 use Rattle.proto_call.proofs.class_make.make.by_parts.Goals as goal
 
 pub returns-else-has_null-clause-goes : goal.returns-else-has_null-clause-goes

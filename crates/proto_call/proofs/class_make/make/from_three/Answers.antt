@@ -1,9 +1,4 @@
-use Rattle.std.proofs.Common.{string_bytes}
-use Rattle.std.specs.Prelude.{option_map}
-use Rattle.class_world.specs.Reading.{plain, bindings}
-use Rattle.proto_call.specs.ClassMake.Say.{by_parts, from_three}
-use Rattle.proto_call.proofs.ClassMake.Making.{goes-from}
-use Rattle.proto_call.proofs.ClassMake.Parts.{three-go}
+use Rattle.proto_call.proofs.Lemmas.{string_bytes, option_map, plain, bindings, by_parts, from_three, goes-from, three-go}
 use Rattle.proto_call.proofs.class_make.make.from_three.Goals as goal
 
 pub returns-in_ok-entries-in-Some-clause-goes : goal.returns-in_ok-entries-in-Some-clause-goes

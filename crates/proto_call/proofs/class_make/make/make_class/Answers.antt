@@ -1,7 +1,5 @@
-use Rattle.std.proofs.Common.{sym, subst}
-use Rattle.std.specs.Prelude.{IfSome}
-use Rattle.class_world.specs.Sound.{IsNode, Holds}
-use Rattle.proto_call.proofs.ClassMake.Parts.{makes-begin, one-holds}
+use Rattle.proto_call.proofs.Lemmas.{sym, subst, IfSome, IsNode, Holds, makes-begin}
+use Rattle.proto_call.proofs.ClassMake.Parts.{one-holds}
 use Rattle.proto_call.proofs.class_make.make.make_class.Goals as goal
 
 pub by_one-requires-clause-one : goal.by_one-requires-clause-one

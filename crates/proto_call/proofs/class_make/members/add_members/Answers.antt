@@ -1,6 +1,5 @@
-use Rattle.std.proofs.Common.{◌+◌, Some, arith}
-use Rattle.class_world.specs.Sound.{AreNames, IsOffset}
-use Rattle.proto_call.proofs.ClassMake.Descriptors.{name-at}
+use Rattle.proto_call.proofs.Lemmas.{Some, arith, AreNames, IsOffset, name-at}
+use Rattle.std.proofs.Common.{◌+◌}
 use Rattle.proto_call.proofs.class_make.members.add_members.Goals as goal
 
 pub add_member-requires-clause-name : goal.add_member-requires-clause-name

@@ -1,5 +1,4 @@
-use Rattle.class_world.specs.Sound.{AreNodes}
-use Rattle.proto_call.proofs.ClassMake.Making.{node-at}
+use Rattle.proto_call.proofs.Lemmas.{AreNodes, node-at}
 use Rattle.proto_call.proofs.class_make.members.define_functions.Goals as goal
 
 pub define_value-requires-clause-value : goal.define_value-requires-clause-value

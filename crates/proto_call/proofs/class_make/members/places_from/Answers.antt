@@ -1,8 +1,5 @@
-use Rattle.std.proofs.Common.{◌∙◌, ◌+◌, sym, map, length, arith}
-use Rattle.std.proofs.lemmas.List.{length-map}
-use Rattle.class_world.specs.Reading.{plain, spelled}
-use Rattle.proto_call.proofs.ClassMake.Descriptors.{places-read}
-use Rattle.proto_call.proofs.ClassMake.Places.{own-counted}
+use Rattle.proto_call.proofs.Lemmas.{◌∙◌, sym, map, length, arith, length-map, plain, spelled, places-read, own-counted}
+use Rattle.std.proofs.Common.{◌+◌}
 use Rattle.proto_call.proofs.class_make.members.places_from.Goals as goal
 
 pub returns-clause-places : goal.returns-clause-places

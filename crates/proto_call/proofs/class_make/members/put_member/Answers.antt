@@ -1,9 +1,4 @@
-use Rattle.std.proofs.Common.{ap, ◌∙◌}
-use Rattle.py_node.specs.BuiltIns.{place_of}
-use Rattle.py_node.specs.declared.payload.MemberDescriptor.{MemberDescriptor}
-use Rattle.plain_machine.specs.World.{with_node}
-use Rattle.class_world.specs.Reading.{member_datum, plain, spelled}
-use Rattle.proto_call.proofs.ClassMake.Descriptors.{member-put}
+use Rattle.proto_call.proofs.Lemmas.{ap, ◌∙◌, place_of, MemberDescriptor, with_node, member_datum, plain, spelled, member-put}
 use Rattle.proto_call.proofs.class_make.members.put_member.Goals as goal
 
 pub returns-in-Ok-clause-set : goal.returns-in-Ok-clause-set

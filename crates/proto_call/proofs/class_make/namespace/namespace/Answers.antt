@@ -1,7 +1,4 @@
-use Rattle.std.proofs.Common.{add-one}
-use Rattle.proto_call.proofs.ClassMake.Spaces.{pair-in, naming-step}
-use Rattle.class_world.specs.Sound.{AreNodes}
-use Rattle.std.proofs.Common.{map}
+use Rattle.proto_call.proofs.Lemmas.{add-one, pair-in, naming-step, AreNodes, map}
 use Rattle.proto_call.proofs.class_make.namespace.namespace.Goals as goal
 
 pub with_key-requires-clause-key : goal.with_key-requires-clause-key

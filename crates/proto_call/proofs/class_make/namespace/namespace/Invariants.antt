@@ -1,4 +1,4 @@
-use Rattle.std.proofs.Common.{drop}
+use Rattle.proto_call.proofs.Below.{drop}
 use Rattle.proto_call.proofs.ClassMake.Spaces.{Naming}
 use Rattle.proto_call.proofs.class_make.namespace.namespace.Given as goal
 

@@ -1,10 +1,4 @@
-use Rattle.std.proofs.Common.{ap, ◌∙◌, string_bytes}
-use Rattle.std.specs.Prelude.{option_map}
-use Rattle.plain_machine.specs.World.{datum_at}
-use Rattle.class_world.specs.Reading.{plain}
-use Rattle.class_world.specs.Sound.{IsNode}
-use Rattle.proto_call.specs.ClassMake.Say.{text_of}
-use Rattle.proto_call.proofs.ClassMake.Spaces.{key-named, insert-holds}
+use Rattle.proto_call.proofs.Lemmas.{ap, ◌∙◌, string_bytes, option_map, datum_at, plain, IsNode, text_of, key-named, insert-holds}
 use Rattle.proto_call.proofs.class_make.namespace.with_key.Goals as goal
 
 pub returns-in_ok-insert-in-Some-clause-named : goal.returns-in_ok-insert-in-Some-clause-named

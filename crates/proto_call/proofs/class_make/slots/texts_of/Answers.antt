@@ -1,9 +1,4 @@
-use Rattle.std.proofs.Common.{add-one}
-use Rattle.class_world.specs.Sound.{AreNodes}
-use Rattle.class_world.proofs.Growth.{grows-itself}
-use Rattle.class_world.proofs.Stored.{no-names}
-use Rattle.proto_call.proofs.ClassMake.Making.{node-at}
-use Rattle.proto_call.proofs.ClassMake.Descriptors.{texting-begins, texting-refused, texting-step}
+use Rattle.proto_call.proofs.Lemmas.{add-one, AreNodes, grows-itself, no-names, node-at, texting-begins, texting-refused, texting-step}
 use Rattle.proto_call.proofs.class_make.slots.texts_of.Goals as goal
 
 pub name_at-requires : goal.name_at-requires

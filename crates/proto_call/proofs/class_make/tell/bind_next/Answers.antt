@@ -1,11 +1,6 @@
-use Rattle.std.proofs.Common.{◌+◌, ap, sym, ◌∙◌, arith, drop}
-use Rattle.class_world.specs.Reading.{plain}
-use Rattle.class_world.specs.Sound.{of_binding, of_each}
-use Rattle.class_world.proofs.Claims.{all-append, all-first, all-rest, each-get, got}
-use Rattle.class_world.proofs.Growth.{grows-itself}
-use Rattle.plain_machine.specs.Objects.{special_at}
-use Rattle.proto_call.specs.ClassMake.Rows.{of_telling}
-use Rattle.proto_call.proofs.ClassMake.Telling.{ask-value, drop-got, skipping-ends, skipping-step}
+use Rattle.proto_call.proofs.Lemmas.{ap, sym, ◌∙◌, arith, drop, plain, of_binding, of_each, all-append, all-first, all-rest, each-get, got, grows-itself, special_at, of_telling, ask-value, skipping-ends, skipping-step}
+use Rattle.std.proofs.Common.{◌+◌}
+use Rattle.proto_call.proofs.ClassMake.Telling.{drop-got}
 use Rattle.proto_call.proofs.class_make.tell.bind_next.Goals as goal
 
 pub special-requires : goal.special-requires

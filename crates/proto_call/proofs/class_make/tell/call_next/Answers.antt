@@ -1,14 +1,6 @@
-use Rattle.std.proofs.Common.{◌≡◌, ◌+◌, ◌∷◌, [], Some, ap, sym, drop, ◌∙◌}
-use Rattle.std.specs.Prelude.{slice_get}
-use Rattle.py_node.specs.BuiltIns.{place_of}
-use Rattle.plain_machine.specs.Plain.{AText}
-use Rattle.plain_machine.specs.World.{ref, next_node, with_node}
-use Rattle.class_world.specs.Reading.{bindings, plain}
-use Rattle.class_world.specs.Sound.{IsNode, of_binding, of_each}
-use Rattle.class_world.proofs.Claims.{all-first, all-grow, all-rest, each-get}
-use Rattle.proto_call.specs.ClassMake.Say.{call_hooks, init_subclass}
-use Rattle.proto_call.specs.ClassMake.Rows.{of_telling}
-use Rattle.proto_call.proofs.ClassMake.Telling.{ask-call, call_row, drop-got, drop-none, takes-same}
+use Rattle.proto_call.proofs.Lemmas.{[], Some, ap, sym, drop, ◌∙◌, slice_get, place_of, AText, ref, next_node, with_node, bindings, plain, IsNode, of_binding, of_each, all-first, all-grow, all-rest, each-get, call_hooks, init_subclass, of_telling, ask-call, call_row, drop-none}
+use Rattle.std.proofs.Common.{◌≡◌, ◌+◌, ◌∷◌}
+use Rattle.proto_call.proofs.ClassMake.Telling.{drop-got, takes-same}
 use Rattle.proto_call.proofs.class_make.tell.call_next.Goals as goal
 
 pub init_subclass-requires-clause-kw : goal.init_subclass-requires-clause-kw

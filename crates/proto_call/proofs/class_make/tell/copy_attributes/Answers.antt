@@ -1,5 +1,5 @@
-use Rattle.std.proofs.Common.{add-one, ap, sym, ◌∙◌, [], ◌∷◌, ◌++◌}
-use Rattle.proto_call.proofs.ClassMake.Making.{take-got}
+use Rattle.proto_call.proofs.Lemmas.{add-one, ap, sym, ◌∙◌, [], take-got}
+use Rattle.std.proofs.Common.{◌∷◌, ◌++◌}
 use Rattle.proto_call.proofs.class_make.tell.copy_attributes.Goals as goal
 
 pub loop-i-preserved : goal.loop-i-preserved

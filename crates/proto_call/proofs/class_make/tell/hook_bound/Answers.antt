@@ -1,6 +1,4 @@
-use Rattle.class_world.specs.Sound.{of_binding}
-use Rattle.class_world.proofs.Claims.{each-push}
-use Rattle.proto_call.proofs.ClassMake.Telling.{hook-bound, hook-other}
+use Rattle.proto_call.proofs.Lemmas.{of_binding, each-push, hook-bound, hook-other}
 use Rattle.proto_call.proofs.class_make.tell.hook_bound.Goals as goal
 
 pub bind_next-requires-clause-hooks : goal.bind_next-requires-clause-hooks

@@ -1,4 +1,4 @@
-use Rattle.proto_call.proofs.ClassMake.Telling.{hook-called, hook-raised}
+use Rattle.proto_call.proofs.Lemmas.{hook-called, hook-raised}
 use Rattle.proto_call.proofs.class_make.tell.hook_called.Goals as goal
 
 pub returns-in-Err-clause-goes : goal.returns-in-Err-clause-goes

@@ -1,8 +1,4 @@
-use Rattle.std.proofs.Common.{◌∙◌, ap, sym, subst}
-use Rattle.class_world.specs.Reading.{bindings, plain}
-use Rattle.class_world.specs.Sound.{AllHold, of_binding, of_each}
-use Rattle.class_model.specs.Class.{class_at}
-use Rattle.proto_call.proofs.ClassMake.Making.{attrs-read}
+use Rattle.proto_call.proofs.Lemmas.{◌∙◌, ap, sym, subst, bindings, plain, AllHold, of_binding, of_each, class_at, attrs-read}
 use Rattle.proto_call.proofs.class_make.tell.own_values.Goals as goal
 
 pub returns-clause-values : goal.returns-clause-values

@@ -1,7 +1,4 @@
-use Rattle.plain_machine.specs.World.{ref}
-use Rattle.class_world.specs.Sound.{of_binding, of_each}
-use Rattle.class_world.proofs.Claims.{all-append}
-use Rattle.proto_call.proofs.ClassMake.Telling.{tell-goes}
+use Rattle.proto_call.proofs.Lemmas.{ref, of_binding, of_each, all-append, tell-goes}
 use Rattle.proto_call.proofs.class_make.tell.tell.Goals as goal
 
 pub returns-clause-goes : goal.returns-clause-goes

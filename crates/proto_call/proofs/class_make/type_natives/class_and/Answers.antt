@@ -1,7 +1,4 @@
-use Rattle.std.proofs.Common.{◌∙◌}
-use Rattle.std.proofs.lemmas.Result.{err_from_is_err_and}
-use Rattle.plain_machine.specs.Takes.{with_two}
-use Rattle.class_world.specs.Reading.{plain, bindings}
+use Rattle.proto_call.proofs.Lemmas.{◌∙◌, err_from_is_err_and, with_two, plain, bindings}
 use Rattle.proto_call.proofs.class_make.type_natives.class_and.Goals as goal
 
 pub returns-in_err-other-clause-refused : goal.returns-in_err-other-clause-refused

@@ -1,9 +1,4 @@
-use Rattle.std.proofs.Common.{sym, ap, ◌∙◌}
-use Rattle.std.proofs.lemmas.Result.{err_from_is_err_and}
-use Rattle.plain_machine.specs.Plain.{Ends}
-use Rattle.plain_machine.specs.Objects.{is_instance}
-use Rattle.plain_machine.specs.Row.{value, truth}
-use Rattle.class_world.specs.Reading.{plain}
+use Rattle.proto_call.proofs.Lemmas.{sym, ap, ◌∙◌, err_from_is_err_and, Ends, is_instance, value, truth, plain}
 use Rattle.proto_call.proofs.class_make.type_natives.instance_check.Goals as goal
 
 pub returns-in_err-class-clause-ends : goal.returns-in_err-class-clause-ends

@@ -1,12 +1,4 @@
-use Rattle.std.proofs.Common.{sym, ap, Err, ◌∙◌}
-use Rattle.std.proofs.lemmas.Result.{err_from_is_err_and}
-use Rattle.class_model.specs.Class.{is_sub}
-use Rattle.plain_machine.specs.Plain.{Ends}
-use Rattle.plain_machine.specs.World.{datum_at}
-use Rattle.plain_machine.specs.Objects.{class_number}
-use Rattle.plain_machine.specs.Row.{value, truth}
-use Rattle.class_world.specs.Reading.{plain}
-use Rattle.row_kit.specs.TakeClasses.{needed}
+use Rattle.proto_call.proofs.Lemmas.{sym, ap, Err, ◌∙◌, err_from_is_err_and, is_sub, Ends, datum_at, class_number, value, truth, plain, needed}
 use Rattle.proto_call.proofs.class_make.type_natives.subclass_check.Goals as goal
 
 pub returns-in_err-class-clause-ends : goal.returns-in_err-class-clause-ends

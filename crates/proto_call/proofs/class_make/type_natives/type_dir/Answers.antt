@@ -1,18 +1,6 @@
-use Rattle.std.proofs.Common.{◌≡◌, [], map, ap, sym, subst, rules, ◌∙◌}
-use Rattle.py_node.specs.BuiltIns.{place_of}
+use Rattle.proto_call.proofs.Lemmas.{[], map, ap, sym, subst, rules, ◌∙◌, place_of, PyObjectRef, all_attributes, the_list, AList, is_text, bindings, datum, plain, AreNodes, Holds, grows-on, sized_made, type_dir, keys_made, keyed, or_no_attributes, ends-then}
+use Rattle.std.proofs.Common.{◌≡◌}
 use Rattle.py_node.specs.declared.payload.Payload.TheVariants as payload
-use Rattle.py_node.specs.declared.refs.PyObjectRef.{PyObjectRef}
-use Rattle.class_model.specs.Collect.{all_attributes}
-use Rattle.plain_machine.specs.Known.{the_list}
-use Rattle.plain_machine.specs.Plain.{AList}
-use Rattle.plain_machine.specs.World.{is_text}
-use Rattle.class_world.specs.Reading.{bindings, datum, plain}
-use Rattle.class_world.specs.Sound.{AreNodes, Holds}
-use Rattle.class_world.proofs.Growth.{grows-on}
-use Rattle.row_kit.specs.Say.{sized_made}
-use Rattle.proto_call.specs.ClassMake.TypeNatives.{type_dir, keys_made}
-use Rattle.row_kit.specs.ClassAttributes.{keyed, or_no_attributes}
-use Rattle.row_kit.proofs.ObjectsEnded.{ends-then}
 use Rattle.proto_call.proofs.class_make.type_natives.type_dir.Goals as goal
 
 pub new_sized-requires-clause-holds : goal.new_sized-requires-clause-holds

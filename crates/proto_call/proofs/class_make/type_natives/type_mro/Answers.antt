@@ -1,18 +1,5 @@
-use Rattle.std.proofs.Common.{refl, sym, ap, ◌∙◌}
-use Rattle.py_node.specs.BuiltIns.{place_of}
+use Rattle.proto_call.proofs.Lemmas.{refl, sym, ap, ◌∙◌, place_of, lin, lin-classes, numbers, the_list, AList, Holds, plain, bindings, datum, line-seen, sized_made, classes_made, type_mro, or_nothing, ends-after}
 use Rattle.py_node.specs.declared.payload.Payload.TheVariants as payload
-use Rattle.class_model.specs.Class.{lin}
-use Rattle.class_model.proofs.Rule.{lin-classes}
-use Rattle.class_table.specs.Keys.{numbers}
-use Rattle.plain_machine.specs.Known.{the_list}
-use Rattle.plain_machine.specs.Plain.{AList}
-use Rattle.class_world.specs.Sound.{Holds}
-use Rattle.class_world.specs.Reading.{plain, bindings, datum}
-use Rattle.class_world.proofs.OfClasses.{line-seen}
-use Rattle.row_kit.specs.Say.{sized_made}
-use Rattle.proto_call.specs.ClassMake.TypeNatives.{classes_made, type_mro}
-use Rattle.row_kit.specs.ClassNames.{or_nothing}
-use Rattle.row_kit.proofs.ObjectsEnded.{ends-after}
 use Rattle.proto_call.proofs.class_make.type_natives.type_mro.Goals as goal
 
 pub mro-requires : goal.mro-requires

@@ -1,17 +1,6 @@
-use Rattle.std.proofs.Common.{◌≡◌, [], true, cond, length, sym, ap, ◌∙◌, rules}
-use Rattle.std.specs.Prelude.{nat_le}
-use Rattle.py_node.specs.BuiltIns.{place_of}
-use Rattle.py_node.specs.Dicts.{PlainDict}
+use Rattle.proto_call.proofs.Lemmas.{[], true, cond, length, sym, ap, ◌∙◌, rules, nat_le, place_of, PlainDict, ArgCount, the_dict, ADict, Ends, fault, plain, datum, none-hold, object_made, type_prepare, with_name_and_bases, ends-after}
+use Rattle.std.proofs.Common.{◌≡◌}
 use Rattle.py_node.specs.declared.payload.Payload.TheVariants as payload
-use Rattle.py_node.specs.declared.raised.Cause.TheVariants.{ArgCount}
-use Rattle.plain_machine.specs.Known.{the_dict}
-use Rattle.plain_machine.specs.Plain.{ADict, Ends}
-use Rattle.plain_machine.specs.Row.{fault}
-use Rattle.class_world.specs.Reading.{plain, datum}
-use Rattle.class_world.proofs.DictChanges.{none-hold}
-use Rattle.row_kit.specs.Say.{object_made}
-use Rattle.proto_call.specs.ClassMake.TypeNatives.{type_prepare, with_name_and_bases}
-use Rattle.row_kit.proofs.ObjectsEnded.{ends-after}
 use Rattle.proto_call.proofs.class_make.type_natives.type_prepare.Goals as goal
 
 pub new_object-requires-clause-holds : goal.new_object-requires-clause-holds

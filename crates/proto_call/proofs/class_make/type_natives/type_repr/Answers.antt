@@ -1,9 +1,5 @@
-use Rattle.std.proofs.Common.{ap, ◌∙◌}
+use Rattle.proto_call.proofs.Lemmas.{ap, ◌∙◌, plain, bindings, in_length, text_made, class_text, type_repr, ends-after}
 use Rattle.std.specs.Prelude.{string_bytes}
-use Rattle.class_world.specs.Reading.{plain, bindings}
-use Rattle.row_kit.specs.Say.{in_length, text_made}
-use Rattle.proto_call.specs.ClassMake.TypeNatives.{class_text, type_repr}
-use Rattle.row_kit.proofs.ObjectsEnded.{ends-after}
 use Rattle.proto_call.proofs.class_make.type_natives.type_repr.Goals as goal
 
 pub returns-in-Err-clause-ends : goal.returns-in-Err-clause-ends

@@ -1,17 +1,5 @@
-use Rattle.std.proofs.Common.{sym, ap, subst, ◌∙◌}
-use Rattle.py_node.specs.BuiltIns.{place_of}
+use Rattle.proto_call.proofs.Lemmas.{sym, ap, subst, ◌∙◌, place_of, subclasses, Includes, numbers, the_list, AList, Holds, plain, bindings, datum, sized_made, classes_made, type_subclasses, ends-after, subclass-there, subclasses-seen}
 use Rattle.py_node.specs.declared.payload.Payload.TheVariants as payload
-use Rattle.class_model.specs.Class.{subclasses}
-use Rattle.class_model.specs.Order.{Includes}
-use Rattle.class_table.specs.Keys.{numbers}
-use Rattle.plain_machine.specs.Known.{the_list}
-use Rattle.plain_machine.specs.Plain.{AList}
-use Rattle.class_world.specs.Sound.{Holds}
-use Rattle.class_world.specs.Reading.{plain, bindings, datum}
-use Rattle.row_kit.specs.Say.{sized_made}
-use Rattle.proto_call.specs.ClassMake.TypeNatives.{classes_made, type_subclasses}
-use Rattle.row_kit.proofs.ObjectsEnded.{ends-after}
-use Rattle.proto_call.proofs.ClassMake.OfTypeNatives.{subclass-there, subclasses-seen}
 use Rattle.proto_call.proofs.class_make.type_natives.type_subclasses.Goals as goal
 
 pub subclasses-requires : goal.subclasses-requires

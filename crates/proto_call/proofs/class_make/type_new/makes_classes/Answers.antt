@@ -1,8 +1,5 @@
-use Rattle.std.proofs.Common.{◌≡◌, true, ℕ, Option, Some, None, ap, sym, ◌∙◌}
-use Rattle.std.specs.Prelude.{option_map}
-use Rattle.std.proofs.lemmas.Bool.{eqb-true}
-use Rattle.py_node.specs.declared.built_in.BuiltIn.TheVariants.{TypeType}
-use Rattle.proto_call.specs.ClassMake.Say.{is_class}
+use Rattle.proto_call.proofs.Lemmas.{true, ℕ, Option, Some, None, ap, sym, ◌∙◌, option_map, eqb-true, TypeType, is_class}
+use Rattle.std.proofs.Common.{◌≡◌}
 use Rattle.proto_call.proofs.class_make.type_new.makes_classes.Goals as goal
 
 is-there : (o : Option ℕ) (c : ℕ) → is_class o c ≡ true → o ≡ Some c

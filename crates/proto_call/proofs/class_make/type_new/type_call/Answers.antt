@@ -1,10 +1,4 @@
-use Rattle.std.proofs.Common.{ap, sym, subst, ◌∙◌, arith, drop}
-use Rattle.std.specs.Prelude.{option_map}
-use Rattle.class_world.specs.Reading.{plain, bindings}
-use Rattle.class_world.specs.Sound.{AreNodes, Holds}
-use Rattle.proto_call.specs.ClassMake.Say.{called_with, type_call}
-use Rattle.proto_call.proofs.ClassMake.Making.{node-at}
-use Rattle.proto_call.proofs.ClassMake.Parts.{call-goes, rest-is, rest-nodes, types-from}
+use Rattle.proto_call.proofs.Lemmas.{ap, sym, subst, ◌∙◌, arith, drop, option_map, plain, bindings, AreNodes, Holds, called_with, type_call, node-at, call-goes, rest-is, rest-nodes, types-from}
 use Rattle.proto_call.proofs.class_make.type_new.type_call.Goals as goal
 
 pub class_number-class-requires : goal.class_number-class-requires

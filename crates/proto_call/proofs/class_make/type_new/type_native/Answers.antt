@@ -1,5 +1,5 @@
 use Rattle.py_node.specs.declared.entry.TypeNative.TheVariants as type
-use Rattle.proto_call.proofs.ClassMake.Parts.{types-begin}
+use Rattle.proto_call.proofs.Lemmas.{types-begin}
 use Rattle.proto_call.proofs.class_make.type_new.type_native.Goals as goal
 
 pub returns-in-New-clause-goes : goal.returns-in-New-clause-goes

@@ -1,5 +1,4 @@
-use Rattle.std.proofs.Common.{sym, ◌∙◌}
-use Rattle.class_world.proofs.Filled.{two-hold}
+use Rattle.proto_call.proofs.Lemmas.{sym, ◌∙◌, two-hold}
 use Rattle.proto_call.proofs.eval_forms.attr.set_attr_step.Goals as goal
 
 pub returns-in-Some-clause-safe : goal.returns-in-Some-clause-safe

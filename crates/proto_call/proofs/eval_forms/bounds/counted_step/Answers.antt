@@ -1,7 +1,5 @@
-use Rattle.std.proofs.Common.{◌≡◌, Some, refl, sym, ◌∙◌}
-use Rattle.class_world.proofs.Filled.{two-hold}
-use Rattle.plain_machine.specs.Args.{two_of}
-use Rattle.proto_call.proofs.EvalForms.Counting.{count-stands}
+use Rattle.proto_call.proofs.Lemmas.{Some, refl, sym, ◌∙◌, two-hold, two_of, count-stands}
+use Rattle.std.proofs.Common.{◌≡◌}
 use Rattle.proto_call.proofs.eval_forms.bounds.counted_step.Goals as goal
 
 pub returns-in-Some-clause-goes : goal.returns-in-Some-clause-goes

@@ -1,12 +1,4 @@
-use Rattle.std.proofs.Common.{sym, ap, ◌∙◌, rules}
-use Rattle.std.specs.Int.{w64}
-use Rattle.std.specs.Int.RustNames.{FitsSigned}
-use Rattle.std.proofs.lemmas.Int.{to_z-of_z}
-use Rattle.plain_machine.specs.Row.{pass}
-use Rattle.class_world.specs.Reading.{plain, ended_of}
-use Rattle.proto_call.specs.declared.eval_forms.EvalKept.TheVariants.{Count}
-use Rattle.proto_call.specs.EvalForms.Words.{counted_task, with_index}
-use Rattle.proto_call.proofs.EvalForms.Counting.{asks-then, count-stands}
+use Rattle.proto_call.proofs.Lemmas.{sym, ap, ◌∙◌, rules, w64, FitsSigned, to_z-of_z, pass, plain, ended_of, Count, counted_task, with_index, asks-then, count-stands}
 use Rattle.proto_call.proofs.eval_forms.bounds.with_count.Goals as goal
 
 pub returns-in-Ok-clause-goes : goal.returns-in-Ok-clause-goes

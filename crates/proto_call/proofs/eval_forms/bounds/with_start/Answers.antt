@@ -1,11 +1,4 @@
-use Rattle.std.proofs.Common.{sym, subst}
-use Rattle.py_node.specs.declared.task.Step.TheVariants.{Ask, End}
-use Rattle.plain_machine.specs.Plain.{DoIndex, ToProtocol}
-use Rattle.plain_machine.specs.Row.{pass}
-use Rattle.class_world.specs.Reading.{plain}
-use Rattle.proto_call.specs.declared.eval_forms.EvalKept.TheVariants.{Start, Stop}
-use Rattle.proto_call.specs.EvalForms.Rows.{Resumes}
-use Rattle.proto_call.proofs.EvalForms.Counting.{asks-stop, ends-start}
+use Rattle.proto_call.proofs.Lemmas.{sym, subst, Ask, End, DoIndex, ToProtocol, pass, plain, Start, Stop, Resumes, asks-stop, ends-start}
 use Rattle.proto_call.proofs.eval_forms.bounds.with_start.Goals as goal
 
 pub returns-in-Err-number_in-clause-goes : goal.returns-in-Err-number_in-clause-goes

@@ -1,18 +1,5 @@
-use Rattle.std.proofs.Common.{◌≡◌, ◌∷◌, [], ◌++◌, map, ap, length, sym, subst, ◌∙◌, append_assoc, arith, length-append}
-use Rattle.std.specs.Prelude.{IfOk}
-use Rattle.std.proofs.lemmas.Bool.{ltb-true}
-use Rattle.std.proofs.lemmas.List.{map-append}
-use Rattle.py_node.specs.declared.task.Step.TheVariants.{End}
-use Rattle.plain_machine.specs.Plain.{Answered, DoEval}
-use Rattle.class_world.specs.Claims.{of_ended}
-use Rattle.class_world.specs.Reading.{ended_of}
-use Rattle.class_world.specs.Rows.{Goes}
-use Rattle.class_world.specs.Sound.{AllHold, Holds}
-use Rattle.class_world.proofs.Claims.{more-nodes}
-use Rattle.proto_call.specs.declared.eval_forms.EvalKept.TheVariants.{Arguments}
-use Rattle.proto_call.specs.EvalForms.Rows.{Resumes, answered, arguments, arguments_at, called_told, called_tree, eval_stands}
-use Rattle.proto_call.specs.EvalForms.Say.{eval_say}
-use Rattle.proto_call.proofs.EvalForms.Arguments.{argument-other}
+use Rattle.proto_call.proofs.Lemmas.{[], map, ap, length, sym, subst, ◌∙◌, append_assoc, arith, length-append, IfOk, ltb-true, map-append, End, Answered, DoEval, of_ended, ended_of, Goes, AllHold, Holds, more-nodes, Arguments, Resumes, answered, arguments, arguments_at, called_told, called_tree, eval_stands, eval_say, argument-other}
+use Rattle.std.proofs.Common.{◌≡◌, ◌∷◌, ◌++◌}
 use Rattle.proto_call.proofs.eval_forms.call_form.argued.Goals as goal
 
 pub next_argument-requires-clause-values : goal.next_argument-requires-clause-values

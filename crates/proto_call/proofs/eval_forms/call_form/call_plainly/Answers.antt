@@ -1,10 +1,4 @@
-use Rattle.std.proofs.Common.{[], refl, ap, ◌∙◌}
-use Rattle.class_world.specs.Claims.{of_task}
-use Rattle.class_world.specs.Reading.{bindings}
-use Rattle.class_world.specs.Sound.{AllHold, of_binding, of_each}
-use Rattle.class_world.proofs.Claims.{all-append}
-use Rattle.proto_call.specs.EvalForms.Rows.{called_task}
-use Rattle.proto_call.specs.EvalForms.Say.{eval_say}
+use Rattle.proto_call.proofs.Lemmas.{[], refl, ap, ◌∙◌, of_task, bindings, AllHold, of_binding, of_each, all-append, called_task, eval_say}
 use Rattle.proto_call.proofs.eval_forms.call_form.call_plainly.Goals as goal
 
 pub returns-clause-goes : goal.returns-clause-goes

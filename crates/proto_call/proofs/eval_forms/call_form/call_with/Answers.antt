@@ -1,8 +1,4 @@
-use Rattle.std.proofs.Common.{[]}
-use Rattle.class_world.specs.Claims.{of_task}
-use Rattle.class_world.specs.Sound.{AllHold, Holds, AreNodes, of_binding, of_each}
-use Rattle.class_world.proofs.Claims.{all-append}
-use Rattle.proto_call.proofs.EvalForms.ClassForm.{take-nodes, drop-nodes}
+use Rattle.proto_call.proofs.Lemmas.{[], of_task, AllHold, Holds, AreNodes, of_binding, of_each, all-append, take-nodes, drop-nodes}
 use Rattle.proto_call.proofs.eval_forms.call_form.call_with.Goals as goal
 
 pub returns-in_ok-keywords-in-Some-clause-safe : goal.returns-in_ok-keywords-in-Some-clause-safe

@@ -1,15 +1,4 @@
-use Rattle.std.proofs.Common.{length, map, sym, ap, ◌∙◌}
-use Rattle.std.specs.Prelude.{IfOk}
-use Rattle.plain_machine.specs.Plain.{PlainWorld}
-use Rattle.class_world.specs.Reading.{Reading, spelled}
-use Rattle.class_world.specs.Claims.{of_step}
-use Rattle.class_world.specs.Sound.{AllHold, Holds, AreNames, AreNodes}
-use Rattle.class_world.specs.declared.world.World.{World}
-use Rattle.class_world.proofs.Stored.{ok-map}
-use Rattle.proto_call.specs.EvalForms.Say.{given_say}
-use Rattle.proto_call.specs.declared.eval_forms.EvalKept.TheVariants.{Arguments}
-use Rattle.proto_call.specs.EvalForms.Rows.{Takes, GoesOn, called_task, positional, named, of_called, of_eval_kept}
-use Rattle.proto_call.proofs.EvalForms.Arguments.{all-given, argument-asked, argument-holds, arguments-given, has-argument, named-hold, no-more, plainly-given}
+use Rattle.proto_call.proofs.Lemmas.{length, map, sym, ap, ◌∙◌, IfOk, PlainWorld, Reading, spelled, of_step, AllHold, Holds, AreNames, AreNodes, World, ok-map, given_say, Arguments, Takes, GoesOn, called_task, positional, named, of_called, of_eval_kept, all-given, argument-asked, argument-holds, arguments-given, has-argument, named-hold, no-more, plainly-given}
 use Rattle.proto_call.proofs.eval_forms.call_form.next_argument.Goals as goal
 
 pub returns-in-Some-clause-goes : goal.returns-in-Some-clause-goes

@@ -1,16 +1,6 @@
-use Rattle.std.proofs.Common.{[], sym, ap, ◌∙◌}
+use Rattle.proto_call.proofs.Lemmas.{[], sym, ap, ◌∙◌, DoCall, ToCall, Asks, is_same_name, AllHold, IsNode, of_binding, of_each, bindings, plain, all-append, all-grow, no-nodes, value-holds, grows-on, class_by, given_metaclass, metaclass, other_keywords, first-holds, given-holds, class-made, asks-takes, cons-nodes, metaclass-read, others-read, others-hold}
 use Rattle.py_node.specs.declared.task.Task.TheVariants as task
 use Rattle.py_node.specs.declared.task.CallTask.TheVariants as call
-use Rattle.plain_machine.specs.Plain.{DoCall, ToCall, Asks}
-use Rattle.py_node.specs.Attributes.{is_same_name}
-use Rattle.class_world.specs.Sound.{AllHold, IsNode, of_binding, of_each}
-use Rattle.class_world.specs.Reading.{bindings, plain}
-use Rattle.class_world.proofs.Claims.{all-append, all-grow, no-nodes}
-use Rattle.class_world.proofs.Bound.{value-holds}
-use Rattle.class_world.proofs.Growth.{grows-on}
-use Rattle.proto_call.specs.EvalForms.Say.{class_by, given_metaclass, metaclass, other_keywords}
-use Rattle.proto_call.proofs.EvalForms.ClassForm.{first-holds, given-holds, class-made, asks-takes, cons-nodes}
-use Rattle.proto_call.proofs.EvalForms.Unrepeated.{metaclass-read, others-read, others-hold}
 use Rattle.proto_call.proofs.eval_forms.class_form.call_metaclass.Goals as goal
 
 pub metaclass-meta-requires-clause-first : goal.metaclass-meta-requires-clause-first

@@ -1,7 +1,5 @@
-use Rattle.std.proofs.Common.{ap, map, option_map, ◌∙◌}
-use Rattle.class_world.specs.Reading.{bindings, spelled}
-use Rattle.proto_call.specs.EvalForms.Say.{class_say, class_within}
-use Rattle.proto_call.proofs.EvalForms.ClassForm.{class-said, take-nodes, drop-nodes, takes-same}
+use Rattle.proto_call.proofs.Lemmas.{ap, map, ◌∙◌, bindings, spelled, class_say, class_within, class-said, take-nodes, drop-nodes, takes-same}
+use Rattle.std.proofs.Common.{option_map}
 use Rattle.proto_call.proofs.eval_forms.class_form.class_step.Goals as goal
 
 pub class_within-requires-clause-bases : goal.class_within-requires-clause-bases

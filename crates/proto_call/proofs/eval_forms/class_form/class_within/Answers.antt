@@ -1,10 +1,5 @@
-use Rattle.std.proofs.Common.{◌≡◌, true, length, sym, ap, ◌∙◌}
-use Rattle.std.specs.Prelude.{nat_le}
-use Rattle.std.proofs.lemmas.List.{length-map}
-use Rattle.plain_machine.specs.Row.{most_items, start, end}
-use Rattle.class_world.specs.Reading.{Reading, bindings, spelled}
-use Rattle.proto_call.specs.EvalForms.Say.{class_by, class_within}
-use Rattle.proto_call.proofs.EvalForms.ClassForm.{takes-same, within-is}
+use Rattle.proto_call.proofs.Lemmas.{true, length, sym, ap, ◌∙◌, nat_le, length-map, most_items, start, end, Reading, bindings, spelled, class_by, class_within, takes-same, within-is}
+use Rattle.std.proofs.Common.{◌≡◌}
 use Rattle.proto_call.proofs.eval_forms.class_form.class_within.Goals as goal
 
 pub returns-clause-goes : goal.returns-clause-goes

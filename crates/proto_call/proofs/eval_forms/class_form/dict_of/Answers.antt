@@ -1,7 +1,4 @@
-use Rattle.std.proofs.Common.{ap, sym, ◌∙◌}
-use Rattle.plain_machine.specs.Dicts.{entries_from}
-use Rattle.class_world.specs.Reading.{plain}
-use Rattle.class_world.proofs.KeyEntries.{entries-themselves, keys-can}
+use Rattle.proto_call.proofs.Lemmas.{ap, sym, ◌∙◌, entries_from, plain, entries-themselves, keys-can}
 use Rattle.proto_call.proofs.eval_forms.class_form.dict_of.Goals as goal
 
 pub entries_from-requires : goal.entries_from-requires

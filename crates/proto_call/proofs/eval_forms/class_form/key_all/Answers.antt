@@ -1,11 +1,6 @@
-use Rattle.std.proofs.Common.{◌≡◌, ◌∷◌, ◌++◌, [], suc, ◌+◌, ap, arith, refl, ◌∙◌, drop, length-append}
-use Rattle.class_world.specs.Sound.{IsName, IsNode}
-use Rattle.class_world.specs.Reading.{bindings, plain}
-use Rattle.class_world.proofs.Growth.{grows-itself, grows-on}
-use Rattle.class_world.proofs.Claims.{no-nodes}
+use Rattle.proto_call.proofs.Lemmas.{[], suc, ap, arith, refl, ◌∙◌, drop, length-append, IsName, IsNode, bindings, plain, grows-itself, grows-on, no-nodes, entry-holds, drop-got, keyed-next, pairs-push, pairs-grow, no-keys-yet, spelled-next, keys-differ}
+use Rattle.std.proofs.Common.{◌≡◌, ◌∷◌, ◌++◌, ◌+◌}
 use Rattle.proto_call.specs.EvalForms.Say.{keyed}
-use Rattle.proto_call.proofs.EvalForms.ClassForm.{entry-holds, drop-got, keyed-next, pairs-push, pairs-grow}
-use Rattle.proto_call.proofs.EvalForms.Keys.{no-keys-yet, spelled-next, keys-differ}
 use Rattle.proto_call.proofs.eval_forms.class_form.key_all.Goals as goal
 
 pub loop-i-init : goal.loop-i-init

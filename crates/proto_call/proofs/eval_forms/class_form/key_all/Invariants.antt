@@ -1,8 +1,5 @@
-use Rattle.std.proofs.Common.{◌≡◌, [], drop, length}
-use Rattle.class_world.specs.Reading.{Reading, Reads, bindings, plain}
-use Rattle.class_world.specs.Sound.{Grows}
-use Rattle.proto_call.specs.EvalForms.Say.{keyed}
-use Rattle.proto_call.specs.EvalForms.ClassForm.{ArePairs, AreSpelled}
+use Rattle.proto_call.proofs.Below.{[], drop, length, Reading, Reads, bindings, plain, Grows, keyed, ArePairs, AreSpelled}
+use Rattle.std.proofs.Common.{◌≡◌}
 use Rattle.proto_call.proofs.eval_forms.class_form.key_all.Given as goal
 
 abbrev pub invariant-loop-i : goal.invariant-loop-i

@@ -1,8 +1,4 @@
-use Rattle.std.proofs.Common.{None, ap, sym, ◌∙◌}
-use Rattle.py_node.specs.BuiltIns.{place_of}
-use Rattle.plain_machine.specs.World.{ref}
-use Rattle.class_world.specs.Reading.{plain}
-use Rattle.proto_call.specs.EvalForms.Say.{metaclass}
+use Rattle.proto_call.proofs.Lemmas.{None, ap, sym, ◌∙◌, place_of, ref, plain, metaclass}
 use Rattle.proto_call.proofs.eval_forms.class_form.metaclass.Goals as goal
 
 pub returns-in-None-None-clause-meta : goal.returns-in-None-None-clause-meta

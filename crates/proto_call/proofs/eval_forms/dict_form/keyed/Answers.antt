@@ -1,14 +1,7 @@
-use Rattle.std.proofs.Common.{◌≡◌, Some, length, sym, subst, ◌∙◌, slice_index_or}
-use Rattle.std.specs.Prelude.{slice_get}
-use Rattle.py_node.specs.declared.task.Step.TheVariants.{Ask, End}
+use Rattle.proto_call.proofs.Lemmas.{Some, length, sym, subst, ◌∙◌, slice_index_or, slice_get, Ask, End, of_ended, AllHold, get-below, Key, Value as OfKey, Resumes, pairs, value-asked, key-ends, part-holds, below-pairs}
+use Rattle.std.proofs.Common.{◌≡◌}
 use Rattle.py_node.specs.declared.task.Task.TheVariants as task
 use Rattle.py_node.specs.declared.task.EvalTask.TheVariants as eval
-use Rattle.class_world.specs.Claims.{of_ended}
-use Rattle.class_world.specs.Sound.{AllHold}
-use Rattle.class_world.proofs.DictEntries.{get-below}
-use Rattle.proto_call.specs.declared.eval_forms.EvalKept.TheVariants.{Key, Value as OfKey}
-use Rattle.proto_call.specs.EvalForms.Rows.{Resumes, pairs}
-use Rattle.proto_call.proofs.EvalForms.DictForm.{value-asked, key-ends, part-holds, below-pairs}
 use Rattle.proto_call.proofs.eval_forms.dict_form.keyed.Goals as goal
 
 pub bounds-pairs-len : goal.bounds-pairs-len

@@ -1,9 +1,4 @@
-use Rattle.plain_machine.specs.Dicts.{entries_from}
-use Rattle.class_world.proofs.Growth.{grows-on}
-use Rattle.class_world.proofs.Stored.{ok-map}
-use Rattle.proto_call.specs.EvalForms.Rows.{EndsRow}
-use Rattle.proto_call.specs.EvalForms.Say.{make_dict}
-use Rattle.proto_call.proofs.EvalForms.DictForm.{made-after}
+use Rattle.proto_call.proofs.Lemmas.{entries_from, grows-on, ok-map, EndsRow, make_dict, made-after}
 use Rattle.proto_call.proofs.eval_forms.dict_form.make_dict.Goals as goal
 
 pub returns-clause-goes : goal.returns-clause-goes

@@ -1,11 +1,4 @@
-use Rattle.std.proofs.Common.{sym, ◌∙◌}
-use Rattle.class_world.proofs.Stored.{ok-map}
-use Rattle.class_world.proofs.Growth.{grows-itself}
-use Rattle.plain_machine.specs.Dicts.{entries_from}
-use Rattle.proto_call.specs.declared.eval_forms.EvalKept.TheVariants.{Key}
-use Rattle.proto_call.specs.EvalForms.Rows.{EndsRow, GoesOn}
-use Rattle.proto_call.specs.EvalForms.Say.{make_dict}
-use Rattle.proto_call.proofs.EvalForms.DictForm.{key-asked, dict-made, part-holds, has-pair}
+use Rattle.proto_call.proofs.Lemmas.{sym, ◌∙◌, ok-map, grows-itself, entries_from, Key, EndsRow, GoesOn, make_dict, key-asked, dict-made, part-holds, has-pair}
 use Rattle.proto_call.proofs.eval_forms.dict_form.next_key.Goals as goal
 
 pub returns-in-Some-clause-goes : goal.returns-in-Some-clause-goes

@@ -1,15 +1,6 @@
-use Rattle.std.proofs.Common.{◌∷◌, [], Ok, length, sym, subst, ◌∙◌, arith, length-append}
-use Rattle.std.specs.Prelude.{IfOk}
-use Rattle.py_node.specs.declared.raised.Cause.TheVariants.{KeyType}
+use Rattle.proto_call.proofs.Lemmas.{[], Ok, length, sym, subst, ◌∙◌, arith, length-append, IfOk, KeyType, End, fault, of_ended, AllHold, ok-map, Key, Value as OfKey, GoesOn, Resumes, value-ends, refused-ends, pair-found, pairs-pushed, fits-more}
+use Rattle.std.proofs.Common.{◌∷◌}
 use Rattle.py_node.specs.declared.task.Answer.TheVariants.{Value}
-use Rattle.py_node.specs.declared.task.Step.TheVariants.{End}
-use Rattle.plain_machine.specs.Row.{fault}
-use Rattle.class_world.specs.Claims.{of_ended}
-use Rattle.class_world.specs.Sound.{AllHold}
-use Rattle.class_world.proofs.Stored.{ok-map}
-use Rattle.proto_call.specs.declared.eval_forms.EvalKept.TheVariants.{Key, Value as OfKey}
-use Rattle.proto_call.specs.EvalForms.Rows.{GoesOn, Resumes}
-use Rattle.proto_call.proofs.EvalForms.DictForm.{value-ends, refused-ends, pair-found, pairs-pushed, fits-more}
 use Rattle.proto_call.proofs.eval_forms.dict_form.valued.Goals as goal
 
 pub returns-then-not-can_be_key-clause-goes : goal.returns-then-not-can_be_key-clause-goes

@@ -1,10 +1,5 @@
-use Rattle.std.proofs.Common.{◌≡◌, ◌-◌, length, Some, sym, ap, ◌∙◌}
-use Rattle.std.specs.Prelude.{slice_get}
-use Rattle.plain_machine.specs.Plain.{Ends}
-use Rattle.plain_machine.specs.Row.{value}
-use Rattle.class_world.specs.Reading.{plain}
-use Rattle.class_world.proofs.Claims.{node-in}
-use Rattle.proto_call.proofs.EvalForms.Sequels.{last-is}
+use Rattle.proto_call.proofs.Lemmas.{length, Some, sym, ap, ◌∙◌, slice_get, Ends, value, plain, node-in, last-is}
+use Rattle.std.proofs.Common.{◌≡◌, ◌-◌}
 use Rattle.proto_call.proofs.eval_forms.flow.seq_step.Goals as goal
 
 pub returns-in-Some-clause-goes : goal.returns-in-Some-clause-goes

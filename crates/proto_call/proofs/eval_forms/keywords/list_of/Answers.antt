@@ -1,6 +1,5 @@
-use Rattle.std.proofs.Common.{◌≡◌, ◌∷◌, ◌++◌, [], suc, ◌+◌, drop, ap, sym, arith, ◌∙◌}
-use Rattle.proto_call.proofs.EvalForms.ClassForm.{drop-got}
-use Rattle.proto_call.proofs.EvalForms.Operands.{append-on}
+use Rattle.proto_call.proofs.Lemmas.{[], suc, drop, ap, sym, arith, ◌∙◌, drop-got, append-on}
+use Rattle.std.proofs.Common.{◌≡◌, ◌∷◌, ◌++◌, ◌+◌}
 use Rattle.proto_call.proofs.eval_forms.keywords.list_of.Goals as goal
 
 pub loop-i-preserved : goal.loop-i-preserved

@@ -1,5 +1,4 @@
-use Rattle.std.proofs.Common.{arith}
-use Rattle.proto_call.proofs.EvalForms.Unrepeated.{are-repeated, are-single}
+use Rattle.proto_call.proofs.Lemmas.{arith, are-repeated, are-single}
 use Rattle.proto_call.proofs.eval_forms.keywords.unrepeated.Goals as goal
 
 pub returns-then-len-names-clause-keywords : goal.returns-then-len-names-clause-keywords

@@ -1,9 +1,5 @@
-use Rattle.std.proofs.Common.{◌≡◌, Some, None, ap, sym, ◌∙◌}
-use Rattle.std.specs.Prelude.{slice_get, option_map}
-use Rattle.py_node.specs.BuiltIns.{place_of}
-use Rattle.plain_machine.specs.World.{ref, or_else_var}
-use Rattle.proto_call.specs.EvalForms.Say.{built_in_named, class_named, fixed_named}
-use Rattle.proto_call.proofs.EvalForms.Operands.{names-in}
+use Rattle.proto_call.proofs.Lemmas.{Some, None, ap, sym, ◌∙◌, slice_get, option_map, place_of, ref, or_else_var, built_in_named, class_named, fixed_named, names-in}
+use Rattle.std.proofs.Common.{◌≡◌}
 use Rattle.proto_call.proofs.eval_forms.names.built_in_at.Goals as goal
 
 pub text-text-requires : goal.text-text-requires

@@ -1,8 +1,5 @@
-use Rattle.std.proofs.Common.{ap, option_map, ◌∙◌}
-use Rattle.std.specs.List.{find}
-use Rattle.std.specs.Str.{bytes_eq}
-use Rattle.proto_call.specs.EvalForms.Say.{class_named}
-use Rattle.proto_call.proofs.EvalForms.Found.{find-map}
+use Rattle.proto_call.proofs.Lemmas.{ap, ◌∙◌, find, bytes_eq, class_named, find-map}
+use Rattle.std.proofs.Common.{option_map}
 use Rattle.proto_call.proofs.eval_forms.names.find_class.Goals as goal
 
 pub returns : goal.returns

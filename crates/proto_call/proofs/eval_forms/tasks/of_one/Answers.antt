@@ -1,5 +1,4 @@
-use Rattle.std.proofs.Common.{ap, sym, ◌∙◌}
-use Rattle.proto_call.specs.EvalForms.Words.{of_one}
+use Rattle.proto_call.proofs.Lemmas.{ap, sym, ◌∙◌, of_one}
 use Rattle.proto_call.proofs.eval_forms.tasks.of_one.Goals as goal
 
 pub returns-in-Sequence-clause-task : goal.returns-in-Sequence-clause-task

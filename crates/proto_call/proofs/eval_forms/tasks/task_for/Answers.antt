@@ -1,6 +1,4 @@
-use Rattle.std.proofs.Common.{ap, sym, ◌∙◌}
-use Rattle.proto_call.specs.EvalForms.Words.{task_for}
-use Rattle.proto_call.proofs.EvalForms.Sequels.{one-item, two-items, three-items}
+use Rattle.proto_call.proofs.Lemmas.{ap, sym, ◌∙◌, task_for, one-item, two-items, three-items}
 use Rattle.proto_call.proofs.eval_forms.tasks.task_for.Goals as goal
 
 pub returns-in-len1-clause-task : goal.returns-in-len1-clause-task

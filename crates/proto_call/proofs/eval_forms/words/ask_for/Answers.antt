@@ -1,6 +1,5 @@
-use Rattle.std.proofs.Common.{◌≡◌, None, refl, sym}
-use Rattle.proto_call.specs.EvalForms.Words.{task_for}
-use Rattle.proto_call.proofs.EvalForms.Outcomes.{asks-made}
+use Rattle.proto_call.proofs.Lemmas.{None, refl, sym, task_for, asks-made}
+use Rattle.std.proofs.Common.{◌≡◌}
 use Rattle.proto_call.proofs.eval_forms.words.ask_for.Goals as goal
 
 pub returns-in-None-clause-goes : goal.returns-in-None-clause-goes

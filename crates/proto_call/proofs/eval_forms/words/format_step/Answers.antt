@@ -1,5 +1,4 @@
-use Rattle.std.proofs.Common.{sym, ◌∙◌}
-use Rattle.class_world.proofs.Filled.{two-hold}
+use Rattle.proto_call.proofs.Lemmas.{sym, ◌∙◌, two-hold}
 use Rattle.proto_call.proofs.eval_forms.words.format_step.Goals as goal
 
 pub payload-requires : goal.payload-requires

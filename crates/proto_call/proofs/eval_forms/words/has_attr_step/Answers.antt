@@ -1,6 +1,4 @@
-use Rattle.std.proofs.Common.{sym, ◌∙◌}
-use Rattle.class_world.specs.Sound.{IsNode}
-use Rattle.class_world.proofs.Filled.{two-hold}
+use Rattle.proto_call.proofs.Lemmas.{sym, ◌∙◌, IsNode, two-hold}
 use Rattle.proto_call.proofs.eval_forms.words.has_attr_step.Goals as goal
 
 pub name_in-requires : goal.name_in-requires

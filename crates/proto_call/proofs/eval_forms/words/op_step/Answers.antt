@@ -1,7 +1,6 @@
-use Rattle.std.proofs.Common.{◌≡◌, sym, subst, ◌∙◌}
+use Rattle.proto_call.proofs.Lemmas.{sym, subst, ◌∙◌, by_manner, manner_of, Takes}
+use Rattle.std.proofs.Common.{◌≡◌}
 use Rattle.proto_call.specs.declared.eval_forms.manner.Manner.TheVariants.{Asks}
-use Rattle.proto_call.specs.EvalForms.Words.{by_manner, manner_of}
-use Rattle.proto_call.specs.EvalForms.Rows.{Takes}
 use Rattle.proto_call.proofs.eval_forms.words.op_step.Goals as goal
 
 pub returns-in-Asks-clause-goes : goal.returns-in-Asks-clause-goes

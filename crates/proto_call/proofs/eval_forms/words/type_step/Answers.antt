@@ -1,6 +1,4 @@
-use Rattle.std.proofs.Common.{sym, subst, ◌∙◌}
-use Rattle.class_world.specs.Sound.{AllHold, of_node_ref, of_option}
-use Rattle.proto_call.proofs.EvalForms.Operands.{one-holds}
+use Rattle.proto_call.proofs.Lemmas.{sym, subst, ◌∙◌, AllHold, of_node_ref, of_option, one-holds}
 use Rattle.proto_call.proofs.eval_forms.words.type_step.Goals as goal
 
 pub type_object-requires : goal.type_object-requires

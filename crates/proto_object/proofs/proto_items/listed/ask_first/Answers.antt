@@ -1,5 +1,4 @@
-use Rattle.class_world.proofs.Claims.{no-nodes}
-use Rattle.proto_object.proofs.ProtoItems.Gathering.{first-asked}
+use Rattle.proto_object.proofs.Lemmas.{no-nodes, first-asked}
 use Rattle.proto_object.proofs.proto_items.listed.ask_first.Goals as goal
 
 pub returns-clause-goes : goal.returns-clause-goes

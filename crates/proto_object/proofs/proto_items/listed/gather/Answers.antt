@@ -1,12 +1,5 @@
-use Rattle.std.proofs.Common.{sym, subst}
-use Rattle.std.specs.Prelude.{IfOk}
-use Rattle.class_world.specs.Claims.{of_ended}
-use Rattle.class_world.specs.Sound.{AllHold}
-use Rattle.class_world.proofs.Growth.{grows-itself}
-use Rattle.proto_object.specs.declared.proto_items.ItemsKept.TheVariants.{Gathering}
+use Rattle.proto_object.proofs.Lemmas.{sym, subst, IfOk, of_ended, AllHold, grows-itself, Gathering, End, all-gathered, no-item}
 use Rattle.proto_object.specs.ProtoItems.Rows.{Resumes}
-use Rattle.py_node.specs.declared.task.Step.TheVariants.{End}
-use Rattle.proto_object.proofs.ProtoItems.Gathering.{all-gathered, no-item}
 use Rattle.proto_object.proofs.proto_items.listed.gather.Goals as goal
 
 pub one_more-requires-clause-item : goal.one_more-requires-clause-item

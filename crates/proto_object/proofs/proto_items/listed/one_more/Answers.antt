@@ -1,9 +1,5 @@
-use Rattle.std.proofs.Common.{◌≡◌, true, false, length, sym, ◌∙◌, ap, arith}
-use Rattle.std.specs.Prelude.{nat_le}
-use Rattle.plain_machine.specs.Row.{most_items}
-use Rattle.class_world.proofs.Claims.{more-nodes}
-use Rattle.class_world.proofs.Growth.{grows-itself}
-use Rattle.proto_object.proofs.ProtoItems.Gathering.{next-asked, too-many}
+use Rattle.proto_object.proofs.Lemmas.{true, false, sym, ◌∙◌, ap, arith, nat_le, most_items, more-nodes, grows-itself, next-asked, too-many}
+use Rattle.std.proofs.Common.{◌≡◌, length}
 use Rattle.proto_object.proofs.proto_items.listed.one_more.Goals as goal
 
 pub returns-then-not-is_within_limit-clause-goes : goal.returns-then-not-is_within_limit-clause-goes

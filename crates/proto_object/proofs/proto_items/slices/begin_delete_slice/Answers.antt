@@ -1,13 +1,6 @@
-use Rattle.std.proofs.Common.{◌≡◌, [], ◌∷◌, ap, subst, ◌∙◌}
-use Rattle.std.specs.Prelude.{ℤ}
-use Rattle.std.proofs.Math.Facts.{to_z-of_z}
-use Rattle.py_node.specs.declared.refs.PyObjectRef.{PyObjectRef}
+use Rattle.proto_object.proofs.Lemmas.{[], ap, subst, ◌∙◌, ℤ, to_z-of_z, PyObjectRef, PlainWorld, Said, plain, entered, with_slice, part-deleted}
+use Rattle.std.proofs.Common.{◌≡◌, ◌∷◌}
 use Rattle.py_node.specs.declared.known.Known.TheVariants as known
-use Rattle.plain_machine.specs.Plain.{PlainWorld, Said}
-use Rattle.class_world.specs.Reading.{plain}
-use Rattle.row_kit.specs.ProtoBase.Entered.{entered}
-use Rattle.proto_object.specs.ProtoItems.Slices.{with_slice}
-use Rattle.proto_object.proofs.ProtoItems.Slicing.{part-deleted}
 use Rattle.proto_object.proofs.proto_items.slices.begin_delete_slice.Goals as goal
 
 pub returns-in_ok-task-in-Some-clause-goes : goal.returns-in_ok-task-in-Some-clause-goes

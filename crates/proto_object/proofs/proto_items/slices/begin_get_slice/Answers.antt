@@ -1,11 +1,5 @@
-use Rattle.std.proofs.Common.{◌≡◌, subst}
-use Rattle.std.specs.Prelude.{ℤ}
-use Rattle.std.proofs.Math.Facts.{to_z-of_z}
-use Rattle.py_node.specs.declared.refs.PyObjectRef.{PyObjectRef}
-use Rattle.plain_machine.specs.Plain.{PlainWorld, Said}
-use Rattle.class_world.specs.Reading.{plain}
-use Rattle.proto_object.specs.ProtoItems.Slices.{with_slice}
-use Rattle.proto_object.proofs.ProtoItems.Slicing.{part-read}
+use Rattle.proto_object.proofs.Lemmas.{subst, ℤ, to_z-of_z, PyObjectRef, PlainWorld, Said, plain, with_slice, part-read}
+use Rattle.std.proofs.Common.{◌≡◌}
 use Rattle.proto_object.proofs.proto_items.slices.begin_get_slice.Goals as goal
 
 pub returns-in_ok-task-in-Some-clause-goes : goal.returns-in_ok-task-in-Some-clause-goes

@@ -1,4 +1,4 @@
-use Rattle.proto_object.proofs.ProtoItems.Calling.{calls, calls-safe}
+use Rattle.proto_object.proofs.Lemmas.{calls, calls-safe}
 use Rattle.proto_object.proofs.proto_items.views.loaded.Goals as goal
 
 pub returns-clause-goes : goal.returns-clause-goes

@@ -1,4 +1,4 @@
-use Rattle.class_world.proofs.Claims.{no-nodes}
+use Rattle.proto_object.proofs.Lemmas.{no-nodes}
 use Rattle.proto_object.proofs.proto_iter.iteration.begin_items.Goals as goal
 
 pub returns-clause-safe : goal.returns-clause-safe

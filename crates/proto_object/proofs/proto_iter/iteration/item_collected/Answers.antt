@@ -1,12 +1,6 @@
-use Rattle.std.proofs.Common.{◌≡◌, ◌∙◌, true, false, Ok, ap, sym, arith}
-use Rattle.std.specs.Prelude.{length, nat_le}
-use Rattle.py_node.specs.declared.task.Answer.TheVariants.{Value, Exhausted}
-use Rattle.plain_machine.specs.Row.{most_items}
-use Rattle.class_world.proofs.Claims.{more-nodes}
-use Rattle.class_world.proofs.Growth.{grows-itself}
-use Rattle.proto_object.specs.declared.proto_iter.IterKept.TheVariants.{Collecting}
-use Rattle.proto_object.proofs.ProtoIter.At.{answered, answer-holds, ends-same, item-is, none-is, steps-so}
-use Rattle.proto_object.proofs.ProtoIter.Collect.{asks-more, ends-all, ends-long, ends-other}
+use Rattle.proto_object.proofs.Lemmas.{◌∙◌, true, false, Ok, ap, sym, arith, length, nat_le, Value, Exhausted, most_items, more-nodes, grows-itself, Collecting, answered, answer-holds, ends-same, item-is, none-is, steps-so, asks-more, ends-all, ends-long}
+use Rattle.std.proofs.Common.{◌≡◌}
+use Rattle.proto_object.proofs.ProtoIter.Collect.{ends-other}
 use Rattle.proto_object.proofs.proto_iter.iteration.item_collected.Goals as goal
 
 pub returns-then-not-is_within_limit-clause-goes : goal.returns-then-not-is_within_limit-clause-goes

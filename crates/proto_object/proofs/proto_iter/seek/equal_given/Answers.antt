@@ -1,6 +1,4 @@
-use Rattle.proto_object.specs.declared.proto_iter.IterKept.TheVariants.{Equal}
-use Rattle.proto_object.proofs.ProtoIter.At.{ends-same}
-use Rattle.proto_object.proofs.ProtoIter.Search.{ends-untrue}
+use Rattle.proto_object.proofs.Lemmas.{Equal, ends-same, ends-untrue}
 use Rattle.proto_object.proofs.proto_iter.seek.equal_given.Goals as goal
 
 pub returns-in-Err-clause-goes : goal.returns-in-Err-clause-goes

@@ -1,8 +1,4 @@
-use Rattle.std.proofs.Common.{Ok}
-use Rattle.py_node.specs.declared.task.Answer.TheVariants.{Value, Exhausted}
-use Rattle.proto_object.specs.declared.proto_iter.IterKept.TheVariants.{Next}
-use Rattle.proto_object.proofs.ProtoIter.At.{answered, ends-same, item-is, none-is}
-use Rattle.proto_object.proofs.ProtoIter.Search.{asks-item, ends-last, ends-other}
+use Rattle.proto_object.proofs.Lemmas.{Ok, Value, Exhausted, Next, answered, ends-same, item-is, none-is, asks-item, ends-last, ends-other}
 use Rattle.proto_object.proofs.proto_iter.seek.item_given.Goals as goal
 
 pub returns-in-Ok-Some-clause-goes : goal.returns-in-Ok-Some-clause-goes

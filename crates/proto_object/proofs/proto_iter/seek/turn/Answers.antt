@@ -1,5 +1,4 @@
-use Rattle.std.proofs.Common.{inl, refl}
-use Rattle.proto_object.specs.ProtoIter.Rows.{turn_of}
+use Rattle.proto_object.proofs.Lemmas.{inl, refl, turn_of}
 use Rattle.proto_object.proofs.proto_iter.seek.turn.Goals as goal
 
 pub returns-in-Contains-false-clause-on : goal.returns-in-Contains-false-clause-on

@@ -1,8 +1,4 @@
-use Rattle.proto_object.specs.declared.proto_iter.IterKept.TheVariants.{Equal}
-use Rattle.std.proofs.Common.{Ok}
-use Rattle.py_node.specs.declared.task.Answer.TheVariants.{Truth}
-use Rattle.proto_object.proofs.ProtoIter.At.{steps-so}
-use Rattle.proto_object.proofs.ProtoIter.Search.{asks-next, ends-turn}
+use Rattle.proto_object.proofs.Lemmas.{Equal, Ok, Truth, steps-so, asks-next, ends-turn}
 use Rattle.proto_object.proofs.proto_iter.seek.turned.Goals as goal
 
 pub returns-in-Ok-clause-goes : goal.returns-in-Ok-clause-goes

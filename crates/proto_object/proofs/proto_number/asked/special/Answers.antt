@@ -1,4 +1,4 @@
-use Rattle.class_world.proofs.Claims.{no-nodes}
+use Rattle.proto_object.proofs.Lemmas.{no-nodes}
 use Rattle.proto_object.proofs.proto_number.asked.special.Goals as goal
 
 pub returns-clause-holds : goal.returns-clause-holds

@@ -1,8 +1,5 @@
-use Rattle.std.proofs.Common.{[], ◌∷◌, refl, sym, ◌∙◌}
-use Rattle.plain_machine.specs.Plain.{Answered}
-use Rattle.class_world.specs.Reading.{plain}
-use Rattle.proto_object.specs.ProtoNumber.Say.{number_job_say}
-use Rattle.proto_object.proofs.ProtoNumber.Hints.{hint-expects}
+use Rattle.proto_object.proofs.Lemmas.{[], refl, sym, ◌∙◌, Answered, plain, number_job_say, hint-expects}
+use Rattle.std.proofs.Common.{◌∷◌}
 use Rattle.proto_object.proofs.proto_number.lengths.expected.Goals as goal
 
 pub returns-in-None-clause-goes : goal.returns-in-None-clause-goes

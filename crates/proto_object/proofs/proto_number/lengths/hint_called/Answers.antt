@@ -1,4 +1,4 @@
-use Rattle.class_world.proofs.Claims.{no-nodes}
+use Rattle.proto_object.proofs.Lemmas.{no-nodes}
 use Rattle.proto_object.proofs.proto_number.lengths.hint_called.Goals as goal
 
 pub returns-clause-safe : goal.returns-clause-safe

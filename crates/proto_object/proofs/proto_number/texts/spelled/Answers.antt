@@ -1,6 +1,4 @@
-use Rattle.std.proofs.Common.{Err, sym, ap, ◌∙◌}
-use Rattle.proto_object.specs.ProtoNumber.Numbers.{is_numeral, without_sign}
-use Rattle.proto_object.proofs.ProtoNumber.Spelling.{spelled-err}
+use Rattle.proto_object.proofs.Lemmas.{Err, sym, ap, ◌∙◌, is_numeral, without_sign, spelled-err}
 use Rattle.proto_object.proofs.proto_number.texts.spelled.Goals as goal
 
 pub returns-in-Err : goal.returns-in-Err

@@ -1,10 +1,5 @@
-use Rattle.std.proofs.Common.{◌≡◌, Ok, sym, ◌∙◌, rules}
-use Rattle.std.specs.Int.{w128}
-use Rattle.std.specs.Int.RustNames.{FitsSigned}
-use Rattle.std.proofs.lemmas.Int.{to_z-of_z}
-use Rattle.py_node.specs.BuiltIns.{place_of}
-use Rattle.proto_ops.specs.NativeNumbers.Numbers.{quotient, remainder}
-use Rattle.proto_ops.proofs.NativeNumbers.Pair.{pair-ends}
+use Rattle.proto_ops.proofs.Lemmas.{Ok, sym, ◌∙◌, rules, w128, FitsSigned, to_z-of_z, place_of, quotient, remainder, pair-ends}
+use Rattle.std.proofs.Common.{◌≡◌}
 use Rattle.proto_ops.proofs.native_numbers.arithmetic.divided.Goals as goal
 
 pub returns-clause-ends : goal.returns-clause-ends

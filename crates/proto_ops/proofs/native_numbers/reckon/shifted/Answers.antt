@@ -1,6 +1,5 @@
-use Rattle.std.proofs.Common.{◌≡◌, inl, inr, ap, pos}
-use Rattle.std.specs.Int.{w128, cast_unsigned}
-use Rattle.proto_ops.proofs.NativeNumbers.Shifts.{small_power, out_of_range}
+use Rattle.proto_ops.proofs.Lemmas.{inl, inr, ap, pos, w128, cast_unsigned, small_power, out_of_range}
+use Rattle.std.proofs.Common.{◌≡◌}
 use Rattle.proto_ops.proofs.native_numbers.reckon.shifted.Goals as goal
 
 pub pow-requires : goal.pow-requires

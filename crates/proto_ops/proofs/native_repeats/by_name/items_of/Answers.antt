@@ -1,4 +1,4 @@
-use Rattle.class_world.proofs.Claims.{no-nodes}
+use Rattle.proto_ops.proofs.Lemmas.{no-nodes}
 use Rattle.proto_ops.proofs.native_repeats.by_name.items_of.Goals as goal
 
 pub returns-in-Text-Text-clause-items : goal.returns-in-Text-Text-clause-items

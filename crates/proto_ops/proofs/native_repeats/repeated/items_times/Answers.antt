@@ -1,6 +1,5 @@
-use Rattle.std.proofs.Common.{◌≡◌, ◌++◌, ◌∙◌, length, sym, ap, arith, true-eqb}
-use Rattle.std.specs.List.{repeat}
-use Rattle.proto_ops.proofs.NativeRepeats.Lists.{repeat-none, repeat-more, repeat-hold}
+use Rattle.proto_ops.proofs.Lemmas.{◌∙◌, length, sym, ap, arith, true-eqb, repeat, repeat-none, repeat-more, repeat-hold}
+use Rattle.std.proofs.Common.{◌≡◌, ◌++◌}
 use Rattle.proto_ops.proofs.native_repeats.repeated.items_times.Goals as goal
 
 pub returns-then-is_empty : goal.returns-then-is_empty

@@ -1,5 +1,5 @@
 use Rattle.std.proofs.Common.{◌≡◌, ◌-◌, ◌≤◌}
-use Rattle.std.specs.List.{repeat}
+use Rattle.proto_ops.proofs.Below.{repeat}
 use Rattle.proto_ops.proofs.native_repeats.repeated.items_times.Given as goal
 
 abbrev pub invariant-loop : goal.invariant-loop

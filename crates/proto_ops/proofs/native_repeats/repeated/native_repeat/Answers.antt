@@ -1,10 +1,4 @@
-use Rattle.std.proofs.Common.{Some, ap, ◌∙◌}
-use Rattle.std.proofs.lemmas.Int.{to_z-of_z}
-use Rattle.class_world.specs.Reading.{datum, plain}
-use Rattle.row_kit.specs.Repeats.{native_repeat}
-use Rattle.row_kit.proofs.ContainersEnds.{same-if}
-use Rattle.proto_ops.specs.NativeRepeats.Say.{ended_with}
-use Rattle.proto_ops.proofs.NativeRepeats.Said.{tuple-says}
+use Rattle.proto_ops.proofs.Lemmas.{Some, ap, ◌∙◌, to_z-of_z, datum, plain, native_repeat, same-if, ended_with, tuple-says}
 use Rattle.proto_ops.proofs.native_repeats.repeated.native_repeat.Goals as goal
 
 pub returns-in_ok-all-in-Tuple-clause-ends : goal.returns-in_ok-all-in-Tuple-clause-ends

@@ -1,14 +1,4 @@
-use Rattle.std.proofs.Common.{Some, Ok, Err, ap, ◌∙◌}
-use Rattle.std.proofs.lemmas.Int.{to_z-of_z}
-use Rattle.std.specs.Prelude.{string_bytes}
-use Rattle.py_node.specs.declared.entry.NativeEntry.TheVariants.{OfStr}
-use Rattle.plain_machine.specs.Known.{the_str}
-use Rattle.plain_machine.specs.Plain.{AText, Ends}
-use Rattle.class_world.specs.Reading.{datum, plain}
-use Rattle.row_kit.specs.Repeats.{native_repeat}
-use Rattle.row_kit.specs.Say.{object_made, text_made}
-use Rattle.row_kit.proofs.ContainersEnds.{same-if}
-use Rattle.proto_ops.proofs.NativeRepeats.Said.{text-says}
+use Rattle.proto_ops.proofs.Lemmas.{Some, Ok, Err, ap, ◌∙◌, to_z-of_z, string_bytes, OfStr, the_str, AText, Ends, datum, plain, native_repeat, object_made, text_made, same-if, text-says}
 use Rattle.proto_ops.proofs.native_repeats.repeated.repeat_text.Goals as goal
 
 pub returns-in-Err-clause-ends : goal.returns-in-Err-clause-ends

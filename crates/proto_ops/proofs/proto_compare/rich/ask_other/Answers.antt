@@ -1,6 +1,5 @@
-use Rattle.std.proofs.Common.{◌≡◌, true, sym, ◌∙◌}
-use Rattle.plain_machine.specs.Row.{is_not_implemented}
-use Rattle.proto_ops.proofs.ProtoCompare.Turns.{asks-left, asks-right}
+use Rattle.proto_ops.proofs.Lemmas.{true, sym, ◌∙◌, is_not_implemented, asks-left, asks-right}
+use Rattle.std.proofs.Common.{◌≡◌}
 use Rattle.proto_ops.proofs.proto_compare.rich.ask_other.Goals as goal
 
 pub returns-then-right_first-clause-goes : goal.returns-then-right_first-clause-goes

@@ -1,9 +1,5 @@
-use Rattle.std.proofs.Common.{◌≡◌, [], ◌∷◌, false, refl, arith}
-use Rattle.std.specs.Prelude.{eqb}
-use Rattle.plain_machine.specs.Plain.{Answered}
-use Rattle.class_world.specs.Reading.{plain}
-use Rattle.proto_ops.specs.ProtoCompare.Say.{compare_job_say}
-use Rattle.proto_ops.proofs.ProtoCompare.Identity.{others-ask}
+use Rattle.proto_ops.proofs.Lemmas.{[], false, refl, arith, eqb, Answered, plain, compare_job_say, others-ask}
+use Rattle.std.proofs.Common.{◌≡◌, ◌∷◌}
 use Rattle.proto_ops.proofs.proto_compare.truths.id_eq.Goals as goal
 
 pub returns-else-a-b-clause-goes : goal.returns-else-a-b-clause-goes

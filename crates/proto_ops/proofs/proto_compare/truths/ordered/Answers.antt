@@ -1,11 +1,7 @@
-use Rattle.std.proofs.Common.{◌≡◌, false, Ok, sym, subst, arith}
-use Rattle.py_node.specs.declared.task.Answer.TheVariants.{Truth}
+use Rattle.proto_ops.proofs.Lemmas.{false, Ok, sym, subst, arith, Truth, Ask, Ordered, Equal, Resumes, asks-equal}
+use Rattle.std.proofs.Common.{◌≡◌}
 use Rattle.py_node.specs.declared.protocol.CompareTask.TheVariants as compare
-use Rattle.py_node.specs.declared.task.Step.TheVariants.{Ask}
 use Rattle.py_node.specs.declared.task.Task.TheVariants as task
-use Rattle.proto_ops.specs.declared.proto_compare.CompareKept.TheVariants.{Ordered, Equal}
-use Rattle.proto_ops.specs.ProtoCompare.Rows.{Resumes}
-use Rattle.proto_ops.proofs.ProtoCompare.Turns.{asks-equal}
 use Rattle.proto_ops.proofs.proto_compare.truths.ordered.Goals as goal
 
 pub returns-in-Ok-Truth-false-clause-goes : goal.returns-in-Ok-Truth-false-clause-goes

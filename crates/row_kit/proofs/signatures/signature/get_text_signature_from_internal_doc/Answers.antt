@@ -1,4 +1,4 @@
-use Rattle.row_kit.proofs.OfSignatures.Signed.{signature-told}
+use Rattle.row_kit.proofs.Lemmas.{signature-told}
 use Rattle.row_kit.proofs.signatures.signature.get_text_signature_from_internal_doc.Goals as goal
 
 pub returns-clause-equals : goal.returns-clause-equals

@@ -1,7 +1,5 @@
-use Rattle.std.proofs.Common.{◌≡◌, ◌≤◌, ◌++◌, length, IfNone, Option, Some, None, List, ℕ, sym, ap, ◌∙◌, subst, arith}
-use Rattle.std.specs.Prelude.{drop, take}
-use Rattle.std.proofs.lemmas.List.{append_cancel_left}
-use Rattle.row_kit.specs.OfSignatures.Signature.{HasNoSignature, ending}
+use Rattle.row_kit.proofs.Lemmas.{length, IfNone, Option, Some, None, List, ℕ, sym, ap, ◌∙◌, subst, arith, drop, take, append_cancel_left, HasNoSignature, ending}
+use Rattle.std.proofs.Common.{◌≡◌, ◌≤◌, ◌++◌}
 use Rattle.row_kit.proofs.signatures.signature.signature.Goals as goal
 
 if-none : {A : Type 0} (r : Option A) {P : Type 0} → P → IfNone r P

@@ -1,6 +1,5 @@
-use Rattle.std.proofs.Common.{◌≡◌, drop}
-use Rattle.serde_json.specs.View.{items_view, members_view}
-use Rattle.script_text.specs.JsonText.Json.{any_bad, any_bad_member}
+use Rattle.script_text.proofs.Below.{drop, items_view, members_view, any_bad, any_bad_member}
+use Rattle.std.proofs.Common.{◌≡◌}
 use Rattle.script_text.proofs.json_text.read.+numbers.Given as goal
 
 abbrev pub invariant-any_bad-loop-item : goal.invariant-any_bad-loop-item

@@ -1,7 +1,5 @@
-use Rattle.std.proofs.Common.{◌≡◌, rules}
-use Rattle.serde_json.specs.Errors.{IsMemory}
-use Rattle.script_text.specs.declared.json_text.error.ScriptError.TheVariants.{NotJson}
-use Rattle.script_text.proofs.JsonText.Values.{value-of_text, value-of_none}
+use Rattle.script_text.proofs.Lemmas.{rules, IsMemory, NotJson, value-of_text, value-of_none}
+use Rattle.std.proofs.Common.{◌≡◌}
 use Rattle.script_text.proofs.json_text.read.read_value.Goals as goal
 
 pub returns-in-Ok-clause-ok : goal.returns-in-Ok-clause-ok

@@ -1,7 +1,5 @@
-use Rattle.std.proofs.Common.{◌≡◌, drop}
-use Rattle.serde_json.specs.View.{items_view}
-use Rattle.py_node.specs.Tree.{texts_of}
-use Rattle.script_text.specs.JsonText.Texts.{texts_in}
+use Rattle.script_text.proofs.Below.{drop, items_view, texts_of, texts_in}
+use Rattle.std.proofs.Common.{◌≡◌}
 use Rattle.script_text.proofs.JsonText.Lists.{onto}
 use Rattle.script_text.proofs.json_text.texts.read_texts.Given as goal
 

@@ -1,6 +1,5 @@
-use Rattle.std.proofs.Common.{◌≡◌, ◌++◌, take, map}
-use Rattle.std.specs.List.{flat_map}
-use Rattle.plain_machine.specs.ClassLines.{slot_word}
+use Rattle.script_text.proofs.Below.{take, map, flat_map, slot_word}
+use Rattle.std.proofs.Common.{◌≡◌, ◌++◌}
 use Rattle.script_text.proofs.reply_text.class.push_class_lines.Given as goal
 
 abbrev pub invariant-loop-slot : goal.invariant-loop-slot

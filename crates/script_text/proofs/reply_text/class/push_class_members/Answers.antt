@@ -1,6 +1,4 @@
-use Rattle.std.proofs.Common.{[], arith}
-use Rattle.std.proofs.lemmas.Bool.Decides.{nat_tests}
-use Rattle.script_text.proofs.ReplyText.Members.{member_more, written_more}
+use Rattle.script_text.proofs.Lemmas.{[], arith, nat_tests, member_more, written_more}
 use Rattle.script_text.proofs.reply_text.class.push_class_members.Goals as goal
 
 pub loop-name-preserved : goal.loop-name-preserved

@@ -1,7 +1,5 @@
-use Rattle.std.proofs.Common.{◌≡◌, ◌++◌, take, map, eqb}
-use Rattle.std.specs.Prelude.{codes}
-use Rattle.plain_machine.specs.Escapes.{escaped}
-use Rattle.plain_machine.specs.Lines.{joined}
+use Rattle.script_text.proofs.Below.{take, map, eqb, codes, escaped, joined}
+use Rattle.std.proofs.Common.{◌≡◌, ◌++◌}
 use Rattle.script_text.proofs.reply_text.class.push_class_members.Given as goal
 
 abbrev pub invariant-loop-name : goal.invariant-loop-name

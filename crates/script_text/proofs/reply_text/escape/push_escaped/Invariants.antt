@@ -1,5 +1,5 @@
-use Rattle.std.proofs.Common.{◌≡◌, ◌++◌, take}
-use Rattle.plain_machine.specs.Escapes.{escaped}
+use Rattle.script_text.proofs.Below.{take, escaped}
+use Rattle.std.proofs.Common.{◌≡◌, ◌++◌}
 use Rattle.script_text.proofs.reply_text.escape.push_escaped.Given as goal
 
 abbrev pub invariant-loop-byte : goal.invariant-loop-byte

@@ -1,6 +1,4 @@
-use Rattle.std.proofs.Common.{sym, subst}
-use Rattle.std.specs.Str.{IsUtf8}
-use Rattle.script_text.proofs.ReplyText.EscapesUtf8.{utf8_quoted}
+use Rattle.script_text.proofs.Lemmas.{sym, subst, IsUtf8, utf8_quoted}
 use Rattle.script_text.proofs.reply_text.escape.quoted_string.Goals as goal
 
 pub string_of-requires : goal.string_of-requires

@@ -1,6 +1,6 @@
-use Rattle.std.proofs.Common.{◌≡◌, ◌++◌, take, map}
-use Rattle.std.specs.Prelude.{codes, string_bytes}
-use Rattle.std.specs.List.{flat_map}
+use Rattle.script_text.proofs.Below.{take, map, codes, flat_map}
+use Rattle.std.proofs.Common.{◌≡◌, ◌++◌}
+use Rattle.std.specs.Prelude.{string_bytes}
 use Rattle.script_text.proofs.reply_text.write.push_joined.Given as goal
 
 abbrev pub invariant-loop-text : goal.invariant-loop-text

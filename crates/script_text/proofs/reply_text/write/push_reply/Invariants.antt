@@ -1,7 +1,5 @@
-use Rattle.std.proofs.Common.{◌≡◌, ◌++◌, take, map}
-use Rattle.std.specs.List.{flat_map}
-use Rattle.py_node.specs.Replies.{started_of}
-use Rattle.plain_machine.specs.Lines.{call_line}
+use Rattle.script_text.proofs.Below.{take, map, flat_map, started_of, call_line}
+use Rattle.std.proofs.Common.{◌≡◌, ◌++◌}
 use Rattle.script_text.proofs.reply_text.write.push_reply.Given as goal
 
 abbrev pub invariant-loop-call : goal.invariant-loop-call

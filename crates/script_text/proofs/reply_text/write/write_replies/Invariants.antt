@@ -1,6 +1,5 @@
-use Rattle.std.proofs.Common.{◌≡◌, take, map}
-use Rattle.py_node.specs.Replies.{reply_of}
-use Rattle.plain_machine.specs.Lines.{replies_text}
+use Rattle.script_text.proofs.Below.{take, map, reply_of, replies_text}
+use Rattle.std.proofs.Common.{◌≡◌}
 use Rattle.script_text.proofs.reply_text.write.write_replies.Given as goal
 
 abbrev pub invariant-loop-reply : goal.invariant-loop-reply

@@ -1,12 +1,6 @@
-use Rattle.std.proofs.Common.{ℕ, ◌+◌, length, rules, subst, sym, ap, ◌∙◌}
-use Rattle.std.proofs.lemmas.Iterator.{YieldsList-from_zip}
-use Rattle.std.proofs.lemmas.Iterator.Adapters.{YieldsList-from_vec}
-use Rattle.std.proofs.lemmas.Iterator.Consumers.{YieldsList-turn, YieldsList-end}
-use Rattle.std.proofs.lemmas.List.{length_push}
+use Rattle.shared_vm.proofs.Lemmas.{ℕ, length, rules, subst, sym, ap, ◌∙◌, YieldsList-from_zip, YieldsList-from_vec, YieldsList-turn, YieldsList-end, length_push, Known, IsFree, Entry, paired_len, next_free, ready_more}
+use Rattle.std.proofs.Common.{◌+◌}
 use mathlib.Core.List.{IsPrefix}
-use Rattle.seat_lock.specs.Known.{Known, IsFree}
-use Rattle.shared_vm.specs.declared.entry.Entry.{Entry}
-use Rattle.shared_vm.proofs.SharedRun.Crews.{paired_len, next_free, ready_more}
 use Rattle.shared_vm.proofs.shared_run.crew.introduce.Goals as goal
 
 pub meet-requires-clause-seat : goal.meet-requires-clause-seat

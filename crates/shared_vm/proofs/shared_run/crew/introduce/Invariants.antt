@@ -1,6 +1,5 @@
-use Rattle.std.proofs.Common.{◌≡◌, length}
-use Rattle.shared_vm.specs.SharedRun.Crew.{AllReady}
-use Rattle.shared_vm.specs.SharedRun.Mix.{session_trees}
+use Rattle.shared_vm.proofs.Below.{length, AllReady, session_trees}
+use Rattle.std.proofs.Common.{◌≡◌}
 use Rattle.shared_vm.proofs.shared_run.crew.introduce.Given as goal
 
 abbrev pub invariant-loop-seat : goal.invariant-loop-seat

@@ -1,9 +1,5 @@
-use Rattle.std.proofs.Common.{subst}
+use Rattle.shared_vm.proofs.Lemmas.{subst, crosses, Worker, Worked, vm_sync, worker_send}
 use denote.Param.Send.{sendable}
-use Rattle.std.proofs.Crossing.{crosses}
-use Rattle.shared_vm.specs.declared.shared_run.crew.Worker.{Worker}
-use Rattle.shared_vm.specs.SharedRun.Crew.{Worked}
-use Rattle.shared_vm.proofs.SharedRun.Sent.{vm_sync, worker_send}
 use Rattle.shared_vm.proofs.shared_run.crew.work_all.Goals as goal
 
 pub for_each_mut-requires-send-T : goal.for_each_mut-requires-send-T

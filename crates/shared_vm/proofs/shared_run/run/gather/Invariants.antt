@@ -1,5 +1,5 @@
-use Rattle.std.proofs.Common.{◌≡◌, ◌∷◌, map, false}
-use Rattle.std.specs.List.{All}
+use Rattle.shared_vm.proofs.Below.{map, false, All}
+use Rattle.std.proofs.Common.{◌≡◌, ◌∷◌}
 use Rattle.shared_vm.proofs.shared_run.run.gather.Given as goal
 
 abbrev pub invariant-loop-worker : goal.invariant-loop-worker

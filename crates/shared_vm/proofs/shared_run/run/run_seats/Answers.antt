@@ -1,11 +1,5 @@
-use Rattle.std.proofs.Common.{◌≡◌, ℕ, ◌<◌, List, length, vec_len, sym, subst, rules}
-use Rattle.std.specs.List.{All}
-use Rattle.std.specs.Vec.{with_items}
-use Rattle.std.proofs.lemmas.List.{places}
-use Rattle.shared_vm.specs.Work.{MayPerform}
-use Rattle.shared_vm.specs.declared.shared_run.crew.Worker.{Worker}
-use Rattle.shared_vm.specs.SharedRun.Mix.{session_trees}
-use Rattle.shared_vm.proofs.SharedRun.Crews.{first_taken, first_fresh, later_fresh, fresh_may, first_short, later_short, tails_same, may_of_ready, kept_len, worked_in, run_did}
+use Rattle.shared_vm.proofs.Lemmas.{ℕ, List, length, vec_len, sym, subst, rules, All, with_items, places, MayPerform, Worker, session_trees, first_taken, first_fresh, later_fresh, fresh_may, first_short, later_short, tails_same, may_of_ready, kept_len, worked_in, run_did}
+use Rattle.std.proofs.Common.{◌≡◌, ◌<◌}
 use Rattle.shared_vm.proofs.shared_run.run.run_seats.Goals as goal
 
 pub perform-requires : goal.perform-requires

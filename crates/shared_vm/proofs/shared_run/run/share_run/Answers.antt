@@ -1,12 +1,5 @@
-use Rattle.std.proofs.Common.{◌≡◌, ◌<◌, length, sym, ◌∙◌, arith}
-use Rattle.std.specs.Prelude.{Vec}
-use Rattle.std.specs.declared.alloc.Global.{Global}
-use Rattle.std.proofs.lemmas.List.{length-map}
-use Rattle.py_node.specs.declared.expr.Command.{Command}
-use Rattle.vm_eval.specs.Runs.{trees_in}
-use Rattle.shared_vm.specs.SharedRun.Mix.{session_trees}
-use Rattle.shared_vm.proofs.SharedRun.Mixes.{mix_of}
-use Rattle.shared_vm.proofs.SharedRun.Crews.{fresh_at}
+use Rattle.shared_vm.proofs.Lemmas.{length, sym, ◌∙◌, arith, Vec, Global, length-map, Command, trees_in, session_trees, mix_of, fresh_at}
+use Rattle.std.proofs.Common.{◌≡◌, ◌<◌}
 use Rattle.shared_vm.proofs.shared_run.run.share_run.Goals as goal
 
 pub run_seats-requires-clause-seats : goal.run_seats-requires-clause-seats

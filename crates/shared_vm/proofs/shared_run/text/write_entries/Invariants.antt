@@ -1,6 +1,5 @@
-use Rattle.std.proofs.Common.{◌≡◌, take}
-use Rattle.shared_vm.specs.Journal.{plain_journal}
-use Rattle.shared_vm.specs.SharedRun.JournalText.{entries_text}
+use Rattle.shared_vm.proofs.Below.{take, plain_journal, entries_text}
+use Rattle.std.proofs.Common.{◌≡◌}
 use Rattle.shared_vm.proofs.shared_run.text.write_entries.Given as goal
 
 abbrev pub invariant-loop-entry : goal.invariant-loop-entry

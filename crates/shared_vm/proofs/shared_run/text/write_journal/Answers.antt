@@ -1,8 +1,5 @@
-use Rattle.std.proofs.Common.{ℕ, List, ◌++◌, ap, ap₂, ◌∙◌}
-use Rattle.shared_vm.specs.declared.entry.Entry.{Entry}
-use Rattle.shared_vm.specs.Journal.{plain_journal}
-use Rattle.shared_vm.specs.SharedRun.JournalText.{entries_text}
-use Rattle.shared_vm.proofs.SharedRun.Texts.{classes_of}
+use Rattle.shared_vm.proofs.Lemmas.{ℕ, List, ap, ap₂, ◌∙◌, Entry, plain_journal, entries_text, classes_of}
+use Rattle.std.proofs.Common.{◌++◌}
 use Rattle.shared_vm.proofs.shared_run.text.write_journal.Goals as goal
 
 pub returns : goal.returns

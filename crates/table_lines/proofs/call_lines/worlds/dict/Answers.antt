@@ -1,4 +1,4 @@
-use Rattle.class_world.proofs.DictChanges.{none-hold}
+use Rattle.table_lines.proofs.Lemmas.{none-hold}
 use Rattle.table_lines.proofs.call_lines.worlds.dict.Goals as goal
 
 pub make_node-requires-clause-payload : goal.make_node-requires-clause-payload

@@ -1,4 +1,4 @@
-use Rattle.table_lines.proofs.MachineLines.Methods.{with-nothing}
+use Rattle.table_lines.proofs.Lemmas.{with-nothing}
 use Rattle.table_lines.proofs.machine_lines.attributes.invoked.Goals as goal
 
 pub invoke-told-requires : goal.invoke-told-requires

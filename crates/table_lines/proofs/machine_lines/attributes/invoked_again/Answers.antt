@@ -1,4 +1,4 @@
-use Rattle.table_lines.proofs.MachineLines.Methods.{with-nothing}
+use Rattle.table_lines.proofs.Lemmas.{with-nothing}
 use Rattle.table_lines.proofs.machine_lines.attributes.invoked_again.Goals as goal
 
 pub invoke_ref-told-requires : goal.invoke_ref-told-requires

@@ -1,5 +1,4 @@
-use Rattle.std.proofs.Common.{refl}
-use Rattle.class_world.specs.Sound.{Holds}
+use Rattle.table_lines.proofs.Lemmas.{refl, Holds}
 use Rattle.table_lines.proofs.machine_lines.makers.member.Goals as goal
 
 -- a native reads it, and nothing sets it: it names no place

@@ -1,5 +1,4 @@
-use Rattle.vm_calls.proofs.AttributeLaws.Keeping.{bases-keep, class-keeps}
-use Rattle.class_world.specs.Reading.{plain}
+use Rattle.vm_calls.proofs.Lemmas.{bases-keep, class-keeps, plain}
 use Rattle.vm_calls.proofs.attribute_laws.dicts.changes_keep_dicts.Goals as goal
 
 pub returns-clause-bases : goal.returns-clause-bases

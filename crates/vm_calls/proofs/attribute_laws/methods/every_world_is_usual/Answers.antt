@@ -1,7 +1,5 @@
-use Rattle.std.proofs.Common.{◌≡◌, ℕ, Option, Some, ap, ◌∙◌, sym}
-use Rattle.std.specs.Prelude.{option_map}
-use Rattle.py_node.specs.Tree.{Text}
-use Rattle.class_model.specs.Class.{Class}
+use Rattle.vm_calls.proofs.Lemmas.{ℕ, Option, Some, ap, ◌∙◌, sym, option_map, Text, Class}
+use Rattle.std.proofs.Common.{◌≡◌}
 use Rattle.vm_calls.proofs.attribute_laws.methods.every_world_is_usual.Goals as goal
 
 -- the flags of a class that is there

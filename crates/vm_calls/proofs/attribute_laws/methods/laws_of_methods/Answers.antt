@@ -1,4 +1,4 @@
-use Rattle.vm_calls.proofs.AttributeLaws.Answering.{method-asks, native-asked, read-method, target-first}
+use Rattle.vm_calls.proofs.Lemmas.{method-asks, native-asked, read-method, target-first}
 use Rattle.vm_calls.proofs.attribute_laws.methods.laws_of_methods.Goals as goal
 
 pub returns-clause-read : goal.returns-clause-read

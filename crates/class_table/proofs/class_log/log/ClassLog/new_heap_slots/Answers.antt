@@ -1,13 +1,5 @@
-use Rattle.std.proofs.Common.{◌≡◌, ◌||◌, List, map, sym, ap, ◌∙◌}
-use Rattle.py_node.specs.BuiltIns.{heap_flags}
-use Rattle.py_node.specs.declared.refs.PyTypeRef.{PyTypeRef}
-use Rattle.class_model.specs.Dict.{any_has_dict, slots_bring}
-use Rattle.class_table.specs.Keys.{numbers, slot_names, table_keys}
-use Rattle.class_table.specs.declared.class_log.change.ClassChange.{ClassChange}
-use Rattle.class_table.specs.ClassLog.Change.{change_of}
-use Rattle.class_table.specs.ClassLog.Logged.{made_by_script}
-use Rattle.class_table.proofs.ClassLog.Kept.{logged-kept}
-use Rattle.class_table.proofs.ClassLog.Logged.{logged-made, noted-as, heap-made, heap-changed, script-change}
+use Rattle.class_table.proofs.Lemmas.{List, map, sym, ap, ◌∙◌, heap_flags, PyTypeRef, any_has_dict, slots_bring, numbers, slot_names, table_keys, ClassChange, change_of, made_by_script, logged-kept, logged-made, noted-as, heap-made, heap-changed, script-change}
+use Rattle.std.proofs.Common.{◌≡◌, ◌||◌}
 use Rattle.class_table.proofs.class_log.log.ClassLog.new_heap_slots.Goals as goal
 use Rattle.class_table.proofs.class_log.log.ClassLog.new_heap_slots.Goals.{in-Make+in-Some-1, in-Make+in-None-1, in-SetBases-1, in-SetOwn-1}
 

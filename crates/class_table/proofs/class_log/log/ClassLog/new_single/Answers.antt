@@ -1,11 +1,5 @@
-use Rattle.std.proofs.Common.{◌≡◌, List, map, ap, ◌∙◌}
-use Rattle.class_model.specs.Class.{class_at}
-use Rattle.class_table.specs.Refused.{is_base_at}
-use Rattle.class_table.specs.declared.class_log.change.ClassChange.{ClassChange}
-use Rattle.class_table.specs.ClassLog.Change.{change_of}
-use Rattle.class_table.specs.ClassLog.Logged.{made_single}
-use Rattle.class_table.proofs.ClassLog.Kept.{base-allowed, logged-kept}
-use Rattle.class_table.proofs.ClassLog.Logged.{logged-made, noted-as, single-made, single-changed}
+use Rattle.class_table.proofs.Lemmas.{List, map, ap, ◌∙◌, class_at, is_base_at, ClassChange, change_of, made_single, base-allowed, logged-kept, logged-made, noted-as, single-made, single-changed}
+use Rattle.std.proofs.Common.{◌≡◌}
 use Rattle.class_table.proofs.class_log.log.ClassLog.new_single.Goals as goal
 use Rattle.class_table.proofs.class_log.log.ClassLog.new_single.Goals.{in-Make+in-Some-1, in-Make+in-None-1, in-SetBases-1, in-SetOwn-1}
 

@@ -1,5 +1,5 @@
-use Rattle.std.proofs.Common.{sym}
-use Rattle.class_table.proofs.ClassLog.Logged.{logged-made, noted, set-made}
+use Rattle.class_table.proofs.Lemmas.{sym, logged-made, set-made}
+use Rattle.class_table.proofs.ClassLog.Logged.{noted}
 use Rattle.class_table.proofs.class_log.log.ClassLog.set_attr.Goals as goal
 
 pub returns-in-Ok-clause-law : goal.returns-in-Ok-clause-law

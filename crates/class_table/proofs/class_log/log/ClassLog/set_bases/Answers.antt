@@ -1,8 +1,6 @@
-use Rattle.std.proofs.Common.{◌≡◌, List, [], ◌∷◌, ◌++◌, map, sym, subst, ◌∙◌}
-use Rattle.py_node.specs.declared.refs.PyTypeRef.{PyTypeRef}
-use Rattle.class_table.specs.Keys.{numbers}
-use Rattle.class_table.specs.ClassLog.Change.{SetBases, change_of}
-use Rattle.class_table.proofs.ClassLog.Logged.{logged-made, noted, rebase-made}
+use Rattle.class_table.proofs.Lemmas.{List, [], map, sym, subst, ◌∙◌, PyTypeRef, numbers, SetBases, change_of, logged-made, rebase-made}
+use Rattle.std.proofs.Common.{◌≡◌, ◌∷◌, ◌++◌}
+use Rattle.class_table.proofs.ClassLog.Logged.{noted}
 use Rattle.class_table.proofs.class_log.log.ClassLog.set_bases.Goals as goal
 
 pub returns-in-Ok-set_bases-clause-law : goal.returns-in-Ok-set_bases-clause-law

@@ -1,8 +1,5 @@
-use Rattle.std.proofs.Common.{◌≡◌, List, length, map, sym, ap, ◌∙◌}
-use Rattle.std.proofs.lemmas.List.{length-map}
-use Rattle.class_table.specs.declared.class_log.change.ClassChange.{ClassChange}
-use Rattle.class_table.specs.ClassLog.Change.{Change, change_of}
-use Rattle.class_table.proofs.ClassLog.Followed.{next-made, left-over, ends, counts}
+use Rattle.class_table.proofs.Lemmas.{List, length, map, sym, ap, ◌∙◌, length-map, ClassChange, Change, change_of, next-made, left-over, ends, counts}
+use Rattle.std.proofs.Common.{◌≡◌}
 use Rattle.class_table.proofs.class_log.replica.Replica.follow.Goals as goal
 
 -- the place where the rest begins

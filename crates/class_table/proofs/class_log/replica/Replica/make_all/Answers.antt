@@ -1,4 +1,4 @@
-use Rattle.class_table.proofs.ClassLog.Followed.{stops}
+use Rattle.class_table.proofs.Lemmas.{stops}
 use Rattle.class_table.proofs.class_log.replica.Replica.make_all.Goals as goal
 
 pub returns-in-Err-clause-left : goal.returns-in-Err-clause-left

@@ -1,7 +1,5 @@
-use Rattle.std.proofs.Common.{◌≡◌, ◌++◌, map, take, drop}
-use Rattle.class_table.specs.ClassLog.Change.{change_of}
-use Rattle.class_table.specs.ClassLog.Shown.{shown}
-use Rattle.class_table.specs.ClassLog.Refused.{AreMade}
+use Rattle.class_table.proofs.Below.{map, take, drop, change_of, shown, AreMade}
+use Rattle.std.proofs.Common.{◌≡◌, ◌++◌}
 use Rattle.class_table.proofs.class_log.replica.Replica.make_all.Given as goal
 
 abbrev pub invariant-loop-change : goal.invariant-loop-change

@@ -1,4 +1,4 @@
-use Rattle.class_table.proofs.ClassLog.Followed.{opens}
+use Rattle.class_table.proofs.Lemmas.{opens}
 use Rattle.class_table.proofs.class_log.replica.Replica.new.Goals as goal
 
 pub invariant_of-result : goal.invariant_of-result

@@ -1,4 +1,4 @@
-use Rattle.shared_vm.proofs.ViewedVm.Publishing.{published, stands-more}
+use Rattle.shared_vm.proofs.Lemmas.{published, stands-more}
 use Rattle.shared_vm.proofs.viewed_vm.shared.ViewedVm.publish.Goals as goal
 
 pub keep-requires-clause-book : goal.keep-requires-clause-book

@@ -1,4 +1,4 @@
-use Rattle.vm_calls.proofs.OfProtocols.Read.{mappings_read}
+use Rattle.vm_calls.proofs.Lemmas.{mappings_read}
 use Rattle.vm_calls.proofs.protocols.mapping.PyMapping.find_methods.Goals as goal
 
 pub returns : goal.returns

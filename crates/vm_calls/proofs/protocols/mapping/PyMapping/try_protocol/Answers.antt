@@ -1,8 +1,5 @@
 use Rattle.std.proofs.Common.{◌≡◌}
-use Rattle.py_node.specs.declared.entry.SlotId.TheVariants.{MapSubscript}
-use Rattle.plain_machine.specs.World.{slot_at}
-use Rattle.class_world.specs.Reading.{plain}
-use Rattle.vm_calls.proofs.OfProtocols.Read.{subscript_shown}
+use Rattle.vm_calls.proofs.Lemmas.{MapSubscript, slot_at, plain, subscript_shown}
 use Rattle.vm_calls.proofs.protocols.mapping.PyMapping.try_protocol.Goals as goal
 
 pub returns-then-check-clause-subscript : goal.returns-then-check-clause-subscript

@@ -1,4 +1,4 @@
-use Rattle.vm_calls.proofs.OfProtocols.Read.{numbers_read}
+use Rattle.vm_calls.proofs.Lemmas.{numbers_read}
 use Rattle.vm_calls.proofs.protocols.number.PyNumber.find_methods.Goals as goal
 
 pub returns : goal.returns

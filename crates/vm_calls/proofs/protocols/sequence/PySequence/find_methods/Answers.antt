@@ -1,4 +1,4 @@
-use Rattle.vm_calls.proofs.OfProtocols.Read.{sequences_read}
+use Rattle.vm_calls.proofs.Lemmas.{sequences_read}
 use Rattle.vm_calls.proofs.protocols.sequence.PySequence.find_methods.Goals as goal
 
 pub returns : goal.returns

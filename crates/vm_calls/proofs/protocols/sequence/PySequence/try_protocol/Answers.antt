@@ -1,8 +1,5 @@
 use Rattle.std.proofs.Common.{◌≡◌}
-use Rattle.py_node.specs.declared.entry.SlotId.TheVariants.{SeqItem}
-use Rattle.plain_machine.specs.World.{slot_at}
-use Rattle.class_world.specs.Reading.{plain}
-use Rattle.vm_calls.proofs.OfProtocols.Read.{item_shown}
+use Rattle.vm_calls.proofs.Lemmas.{SeqItem, slot_at, plain, item_shown}
 use Rattle.vm_calls.proofs.protocols.sequence.PySequence.try_protocol.Goals as goal
 
 pub returns-then-check-clause-item : goal.returns-then-check-clause-item

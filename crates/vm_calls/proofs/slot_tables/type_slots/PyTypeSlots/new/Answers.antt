@@ -1,5 +1,4 @@
-use Rattle.std.proofs.Common.{refl}
-use Rattle.vm_calls.proofs.SlotTables.Filled.{no_slots, no_sequence, no_mapping}
+use Rattle.vm_calls.proofs.Lemmas.{refl, no_slots, no_sequence, no_mapping}
 use Rattle.vm_calls.proofs.slot_tables.type_slots.PyTypeSlots.new.Goals as goal
 
 -- src/type_slots.rt:136:5
