@@ -4,6 +4,8 @@
 A part of docs/PROVED.md is opened by a heading of three signs with the names of one or more crates in backquotes, and
 has tables of the rows `| call | clause | what it says |`. The first cell has calls, the second clauses, each in
 backquotes. Of several in braces each is meant by itself, and a star stands for all that fits, also for crates.
+A public module of a crate with modules of its own, or one that a heading names with its crate, has a part as a crate
+has: it is `vm_calls::protocols`, or just `protocols`, and its calls are named without that.
 
 A call is named as other crates name it: `begin` or `laws::resolve_mro` for a function, `World::slot` for a call of a
 type or of a trait, `World::is_*` for several, `*` for all calls of the crate. A clause is the name that follows
@@ -23,7 +25,7 @@ import subprocess
 import sys
 from collections.abc import Iterable, Iterator
 from dataclasses import dataclass, field
-from fnmatch import filter as fitting, fnmatchcase
+from fnmatch import fnmatchcase
 from pathlib import Path
 
 TOP = Path(__file__).resolve().parent.parent
@@ -77,7 +79,7 @@ class Visible:
 def visible(root: str) -> Visible:
     """The public modules of a crate, and what it passes on, by the text of its lib.rt."""
     found = Visible(set(re.findall(r"^pub mod (\w+)[;{ ]", root, re.MULTILINE)))
-    for module, names in re.findall(r"^pub use (?:crate::)?(\w+)::(\{.*?\}|\w+);", root, re.MULTILINE | re.DOTALL):
+    for module, names in re.findall(r"^pub use (?:crate::(?:\w+::)??)?(\w+)::(\{.*?\}|\w+);", root, re.MULTILINE | re.DOTALL):
         found.functions |= {f"{module}::{name}" for name in re.findall(r"\w+", names)}
     return found
 
@@ -100,13 +102,36 @@ def scope_of(line: str) -> tuple[str, bool] | None:
     return None
 
 
+def libraries_of() -> list[str]:
+    """The libraries, and the public modules of them that have modules of their own or a heading."""
+    headed = {name for line in PROVED.read_text().splitlines() if line.startswith("### ") for name in quoted(line)}
+    found = []
+    for root in sorted(CRATES.glob("*/src/lib.rt")):
+        crate = root.parent.parent.name
+        public = sorted(visible(root.read_text()).modules)
+        found += [crate, *(f"{crate}::{module}" for module in public if (root.parent / module).is_dir() or f"{crate}::{module}" in headed)]
+    return found
+
+
+def files_of(crate: str) -> tuple[Path, list[Path]]:
+    """The root of a library, or of such a module, and its files."""
+    name, _, module = crate.partition("::")
+    source = CRATES / name / "src"
+    if module:
+        root = source / f"{module}.rt"
+        return root, [root, *sorted((source / module).glob("**/*.rt"))]
+    inner = {it.partition("::")[2] for it in libraries_of() if it.startswith(f"{name}::")}
+    files = [it for it in sorted(source.glob("**/*.rt")) if not {it.relative_to(source).parts[0].removesuffix(".rt")} & inner]
+    return source / "lib.rt", files
+
+
 def calls_of(crate: str) -> Iterator[Call]:
     """The public calls of a crate that have clauses."""
-    source = CRATES / crate / "src"
-    seen = visible((source / "lib.rt").read_text())
-    for file in sorted(source.glob("**/*.rt")):
+    root, files = files_of(crate)
+    seen = visible(root.read_text())
+    for file in files:
         lines = file.read_text().splitlines()
-        module = "" if file.name == "lib.rt" else file.stem
+        module = "" if file == root else file.stem
         scope: tuple[str, bool] | None = None
         for at, line in enumerate(lines):
             scope = None if line.startswith("}") else scope_of(line) or scope
@@ -139,10 +164,15 @@ def rows(libraries: list[str]) -> Iterator[Row]:
     for number, line in enumerate(PROVED.read_text().splitlines(), 1):
         if line.startswith("#"):
             named = quoted(line) if line.startswith("### ") else ()
-            crates = tuple(crate for name in named for crate in fitting(libraries, name) or [name])
+            crates = tuple(crate for name in named for crate in named_by(libraries, name) or [name])
         elif crates and line.startswith("|") and not line.startswith(("| call | clause |", "|---")):
             cells = [quoted(cell) for cell in line.split("|")]
             yield Row(number, crates, cells[1], cells[2] if len(cells) > 2 else ())
+
+
+def named_by(libraries: list[str], name: str) -> list[str]:
+    """The libraries that a name of a heading stands for, and the modules, of which it may have the last part alone."""
+    return [it for it in libraries if fnmatchcase(it, name) or "::" not in name and fnmatchcase(it.rpartition("::")[2], name)]
 
 
 def quoted(text: str) -> tuple[str, ...]:
@@ -211,7 +241,7 @@ def faults_of_kit() -> Iterator[str]:
 
 def main() -> int:
     """Tells each fault on standard error, and ends with 1 if there are any."""
-    libraries = sorted(file.parent.parent.name for file in CRATES.glob("*/src/lib.rt"))
+    libraries = libraries_of()
     calls = {crate: list(calls_of(crate)) for crate in libraries}
     table = list(rows(libraries))
     wrong = [*faults_of_rows(table, calls), *faults_of_calls(table, calls), *faults_of_kit()]

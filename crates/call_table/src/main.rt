@@ -1,4 +1,4 @@
-//! Writes a table of calls with their values, of the world and what stands below it (`call_lines`).
+//! Writes a table of calls with their values, of the world and what stands below it (`table_lines::call_lines`).
 #![tactic(auto)]
 
 use std::io;
@@ -7,7 +7,7 @@ use table_lines::Table;
 
 fn main(rt: HostRuntime) -> io::Result<ExitCode> {
     let mut table = Table::new(rt.alloc());
-    call_lines::put(&mut table, rt.alloc());
+    table_lines::call_lines::put(&mut table, rt.alloc());
     let text = table.text();
     print!(rt; "{text}")?;
     let status = if table.is_ended() { 1 } else { 0 };

@@ -1,15 +1,6 @@
 -- Tables that give a class the same attributes and slots.
-use Rattle.std.proofs.Common.{◌≡◌, ℕ, Bool, true, false, cond, not, ◌&&◌, List, [], ◌∷◌, Option, Some, None, inl, inr, refl, ap, ◌∙◌}
-use Rattle.std.specs.Prelude.{option_and_then}
-use Rattle.py_node.specs.declared.entry.SlotId.{SlotId}
-use Rattle.py_node.specs.declared.entry.SlotId.TheVariants.{New}
-use Rattle.py_node.specs.declared.entry.SlotEntry.{SlotEntry}
-use Rattle.py_node.specs.declared.slots.Sort.{Sort}
-use Rattle.py_node.specs.declared.slots.Sort.TheVariants.{ByItself, BySequence, ByMapping, Nearest}
-use Rattle.py_node.specs.Slots.{is_slot, all_slots, sort_of}
-use Rattle.class_model.specs.Order.{Includes}
-use Rattle.class_model.specs.Class.{Classes, class_at, lin, own_of, first_along, along}
-use Rattle.class_model.specs.Slot.{Keys, Natives, is_name_of, wrapped, heap_entry, is_heap_at, given_entry, is_by_itself, entry, has_table, first_with, read_along}
+use Rattle.class_model.proofs.Below.{ℕ, Bool, true, false, cond, not, List, [], Option, Some, None, inl, inr, refl, ap, ◌∙◌, option_and_then, SlotId, New, SlotEntry, Sort, ByItself, BySequence, ByMapping, Nearest, is_slot, all_slots, sort_of, Includes, Classes, class_at, lin, own_of, first_along, along, Keys, Natives, is_name_of, wrapped, heap_entry, is_heap_at, given_entry, is_by_itself, entry, has_table, first_with, read_along}
+use Rattle.std.proofs.Common.{◌≡◌, ◌&&◌, ◌∷◌}
 
 pub bind-agrees : {A B : Type 0} (f g : A → Option B) (o p : Option A) → o ≡ p → ((x : A) → o ≡ Some x → f x ≡ g x) → option_and_then f o ≡ option_and_then g p
 bind-agrees {A = A} {B = B} f g o p e h = go o h ∙ ap (option_and_then g) e

@@ -1,6 +1,6 @@
 -- All orders are among the arrangements, so that the least of them is found.
-use Rattle.std.proofs.Common.{◌≡◌, ℕ, zero, suc, ◌≤◌, Bool, true, false, cond, List, [], ◌∷◌, map, filter, length, Option, Some, None, inl, inr, refl, sym, ap, arith}
-use Rattle.class_model.specs.Order.{members_of, is_order, ranks, is_lexicographic, without, unique, arrangements, all_arrangements, lesser, least, least_order, Includes, Distinct, IsOrder, IsLeastOrder}
+use Rattle.class_model.proofs.Below.{ℕ, zero, suc, Bool, true, false, cond, List, [], map, filter, length, Option, Some, None, inl, inr, refl, sym, ap, arith, members_of, is_order, ranks, is_lexicographic, without, unique, arrangements, all_arrangements, lesser, least, least_order, Includes, Distinct, IsOrder, IsLeastOrder}
+use Rattle.std.proofs.Common.{◌≡◌, ◌≤◌, ◌∷◌}
 use Rattle.class_model.proofs.Held.{Includes-equal, Includes-flat_map, Includes-map, Includes-filter, from_filter, Includes-without, from_without, Includes-unique, from_unique, distinct-fewer}
 use Rattle.class_model.proofs.Tests.{Decides-order}
 use Rattle.class_model.proofs.Lexicographic.{least-none, least-first}

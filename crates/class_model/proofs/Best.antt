@@ -1,10 +1,6 @@
 -- The best of some bases, when one more follows them.
-use Rattle.std.proofs.Common.{◌≡◌, ℕ, Bool, true, false, cond, ◌&&◌, List, [], ◌∷◌, ◌++◌, map, Option, Some, None, inl, inr, refl, sym, ap, ◌∙◌}
-use Rattle.std.proofs.lemmas.Bool.{both_ways, and_parts, false_from_ne_true}
-use Rattle.std.proofs.lemmas.List.{map-append}
-use Rattle.class_model.specs.Order.{Includes}
-use Rattle.class_model.specs.Class.{Classes, lin, is_sub, is_along}
-use Rattle.class_model.specs.Layout.{derives_all, first_best, solid, best_of}
+use Rattle.class_model.proofs.Below.{ℕ, Bool, true, false, cond, List, [], map, Option, Some, None, inl, inr, refl, sym, ap, ◌∙◌, both_ways, and_parts, false_from_ne_true, map-append, Includes, Classes, lin, is_sub, is_along, derives_all, first_best, solid, best_of}
+use Rattle.std.proofs.Common.{◌≡◌, ◌&&◌, ◌∷◌, ◌++◌}
 use Rattle.class_model.proofs.Tests.{Decides-has}
 use Rattle.class_model.proofs.Rule.{lin-inside, lin-itself}
 

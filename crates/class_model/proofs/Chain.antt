@@ -1,11 +1,6 @@
 -- The chain of best bases ends by itself.
-use Rattle.std.proofs.Common.{◌≡◌, ℕ, zero, suc, true, List, [], ◌∷◌, length, Option, Some, None, refl, sym, ◌∙◌}
-use Rattle.std.specs.Prelude.{option_and_then}
-use Rattle.class_model.specs.Order.{linear, Includes}
-use Rattle.class_model.specs.Class.{Classes, is_class, bases_of, lin}
-use Rattle.class_model.specs.Layout.{solid, best_of, base}
-use Rattle.class_model.specs.Sound.{AreSound}
-use Rattle.class_model.specs.Chain.{steps, chain_from, base_chain, IsChain}
+use Rattle.class_model.proofs.Below.{ℕ, zero, suc, true, List, [], length, Option, Some, None, refl, sym, ◌∙◌, option_and_then, linear, Includes, Classes, is_class, bases_of, lin, solid, best_of, base, AreSound, steps, chain_from, base_chain, IsChain}
+use Rattle.std.proofs.Common.{◌≡◌, ◌∷◌}
 use Rattle.class_model.proofs.Linear.{linear-made, linear-zero, all_some-has}
 use Rattle.class_model.proofs.Numbers.{some-of}
 use Rattle.class_model.proofs.Solid.{first_best-held}

@@ -1,12 +1,6 @@
 -- Linearisations after one more class, and after a class was changed.
-use Rattle.std.proofs.Common.{◌≡◌, ℕ, true, ◌≤◌, Bool, List, [], ◌∷◌, map, length, Some, refl, sym, ap, ◌∙◌, arith}
-use Rattle.std.specs.Prelude.{option_map, option_and_then}
-use Rattle.py_node.specs.declared.refs.PyObjectRef.{PyObjectRef}
-use Rattle.py_node.specs.Attributes.{with_value}
-use Rattle.class_model.specs.Order.{least_order, all_some, linear, Includes}
-use Rattle.class_model.specs.Class.{Class, Classes, is_class, bases_of, lin}
-use Rattle.class_model.specs.Numbers.{limit}
-use Rattle.class_model.specs.Change.{with_class, with_changed, with_class_attr}
+use Rattle.class_model.proofs.Below.{ℕ, true, Bool, List, [], map, length, Some, refl, sym, ap, ◌∙◌, arith, option_map, option_and_then, PyObjectRef, with_value, least_order, all_some, linear, Includes, Class, Classes, is_class, bases_of, lin, limit, with_class, with_changed, with_class_attr}
+use Rattle.std.proofs.Common.{◌≡◌, ◌≤◌, ◌∷◌}
 use Rattle.class_model.proofs.Numbers.{at-before, at-last, at-changed, length-changed}
 use Rattle.class_model.proofs.OneBase.{least_order-one_base, least_order-no_base}
 use Rattle.class_model.proofs.Linear.{linear-same}

@@ -1,7 +1,6 @@
 -- The linearisations of small tables, computed.
-use Rattle.std.proofs.Common.{◌≡◌, ℕ, false, List, [], ◌∷◌, Some, None, refl}
-use Rattle.class_model.specs.Order.{arrangements, all_arrangements, least_order, linear}
-use Rattle.class_model.specs.Class.{Class, Classes, lin}
+use Rattle.class_model.proofs.Below.{ℕ, false, List, [], Some, None, refl, arrangements, all_arrangements, least_order, linear, Class, Classes, lin}
+use Rattle.std.proofs.Common.{◌≡◌, ◌∷◌}
 
 class : ℕ → List ℕ → Class ℕ
 class number bases = record { name = []; number = number; bases = bases; attrs = []; members = []; flags = 0; brings = false }

@@ -1,8 +1,6 @@
 -- How deep bases go does not matter: as many steps as there are classes are enough.
-use Rattle.std.proofs.Common.{◌≡◌, ℕ, zero, suc, ◌≤◌, Bool, true, false, List, [], ◌∷◌, length, Option, Some, inl, inr, refl, sym, ap, subst, ◌∙◌, arith}
-use Rattle.std.specs.List.{flat_map}
-use Rattle.std.proofs.lemmas.Bool.{false≢true}
-use Rattle.class_model.specs.Order.{has, linear, Includes}
+use Rattle.class_model.proofs.Below.{ℕ, zero, suc, Bool, true, false, List, [], length, Option, Some, inl, inr, refl, sym, ap, subst, ◌∙◌, arith, flat_map, false≢true, has, linear, Includes}
+use Rattle.std.proofs.Common.{◌≡◌, ◌≤◌, ◌∷◌}
 use Rattle.class_model.proofs.Held.{Includes-equal, Includes-flat_map, from_flat_map, Subsequence-holds, Subsequence-rest, Subsequence-length}
 use Rattle.class_model.proofs.Tests.{Decides-has}
 use Rattle.class_model.proofs.Arranged.{least_order-order}

@@ -1,13 +1,6 @@
 -- A class's flags say whether it gives its objects a dict: for sound classes, and where the bases of one are replaced.
-use Rattle.std.proofs.Common.{◌≡◌, ℕ, zero, suc, Bool, true, false, eqb, ◌||◌, List, [], ◌∷◌, length, Option, Some, None, inl, inr, refl, sym, ap, subst, ◌∙◌}
-use Rattle.std.specs.Prelude.{option_map}
-use Rattle.std.specs.List.{list_any}
-use Rattle.std.proofs.lemmas.Bool.{eqb-true, eqb-false}
-use Rattle.class_model.specs.Order.{linear, Includes}
-use Rattle.class_model.specs.Class.{Class, Classes, class_at, is_class, bases_of, lin}
-use Rattle.class_model.specs.Change.{with_bases}
-use Rattle.class_model.specs.Dict.{gives_within, gives_dict, says_dict, has_dict, any_has_dict, dict_with, alike, has_its_dict}
-use Rattle.class_model.specs.Sound.{AreSound}
+use Rattle.class_model.proofs.Below.{ℕ, zero, suc, Bool, true, false, eqb, List, [], length, Option, Some, None, inl, inr, refl, sym, ap, subst, ◌∙◌, option_map, list_any, eqb-true, eqb-false, linear, Includes, Class, Classes, class_at, is_class, bases_of, lin, with_bases, gives_within, gives_dict, says_dict, has_dict, any_has_dict, dict_with, alike, has_its_dict, AreSound}
+use Rattle.std.proofs.Common.{◌≡◌, ◌||◌, ◌∷◌}
 use Rattle.class_model.proofs.Linear.{linear-made, linear-zero, all_some-has}
 use Rattle.class_model.proofs.Numbers.{some-of, at-changed, at-changed_away, at-changed_here}
 use Rattle.class_model.proofs.Rule.{bases_of-get}

@@ -1,14 +1,7 @@
 -- The class that is blamed for new bases is the least-numbered one that they leave without an order.
-use Rattle.std.proofs.Common.{◌≡◌, ℕ, zero, suc, ◌<◌, ◌≤◌, Bool, true, false, cond, List, [], ◌∷◌, map, Option, Some, None, inl, inr, refl, sym, ap, subst, ◌∙◌, arith, true≢false}
-use Rattle.std.specs.Prelude.{is_some, is_none, slice_get, option_map, option_and_then, ◌↔◌}
-use Rattle.std.proofs.lemmas.Bool.{or_cases, or_left, or_right, and_parts, and_from}
-use Rattle.py_node.specs.declared.raised.Cause.{Cause}
-use Rattle.py_node.specs.declared.raised.Cause.TheVariants.{LocalPrecedence, MroConflict}
-use Rattle.class_model.specs.Order.{has, all_some, least_order, Includes}
-use Rattle.class_model.specs.Class.{Class, Classes, bases_of, lin, past_first}
-use Rattle.class_model.specs.Numbers.{is_ascending, ascend_from, numbers_of}
-use Rattle.class_model.specs.Change.{with_bases, is_blamed, blamed_along, stands_past, breaks_precedence, order_cause, caused, failing}
-use Rattle.class_model.specs.Failing.{BreaksPrecedence, IsBlamed, IsFailing, NoneIsBlamed}
+use Rattle.class_model.proofs.Below.{ℕ, zero, suc, Bool, true, false, cond, List, [], map, Option, Some, None, inl, inr, refl, sym, ap, subst, ◌∙◌, arith, true≢false, is_some, is_none, slice_get, option_map, option_and_then, or_cases, or_left, or_right, and_parts, and_from, Cause, LocalPrecedence, MroConflict, has, all_some, least_order, Includes, Class, Classes, bases_of, lin, past_first, is_ascending, ascend_from, numbers_of, with_bases, is_blamed, blamed_along, stands_past, breaks_precedence, order_cause, caused, failing, BreaksPrecedence, IsBlamed, IsFailing, NoneIsBlamed}
+use Rattle.std.proofs.Common.{◌≡◌, ◌<◌, ◌≤◌, ◌∷◌}
+use Rattle.std.specs.Prelude.{◌↔◌}
 use Rattle.class_model.proofs.Numbers.{some-of, at-number, at-place, no-less, at-from_place, numbers-changed}
 use Rattle.class_model.proofs.Tests.{Decides-has}
 use Rattle.class_model.proofs.Arranged.{least_order-order, least_order-none}

@@ -1,8 +1,6 @@
 -- What lists hold, and lists of which some is struck out.
-use Rattle.std.proofs.Common.{◌≡◌, ℕ, suc, ◌<◌, ◌≤◌, Bool, true, false, cond, not, eqb, List, [], ◌∷◌, ◌++◌, map, length, filter, ◌⊎◌, inl, inr, refl, sym, ap, subst, ◌∙◌, arith}
-use Rattle.std.proofs.lemmas.Bool.{eq-eqb, ne_eqb, cases_eq}
-use Rattle.std.specs.List.{flat_map}
-use Rattle.class_model.specs.Order.{Includes, Distinct, Subsequence, without, unique}
+use Rattle.class_model.proofs.Below.{ℕ, suc, Bool, true, false, cond, not, eqb, List, [], map, length, filter, inl, inr, refl, sym, ap, subst, ◌∙◌, arith, eq-eqb, ne_eqb, cases_eq, flat_map, Includes, Distinct, Subsequence, without, unique}
+use Rattle.std.proofs.Common.{◌≡◌, ◌<◌, ◌≤◌, ◌∷◌, ◌++◌, ◌⊎◌}
 
 pub Includes-equal : {A : Type 0} (xs : List A) (x y : A) → x ≡ y → Includes xs x → Includes xs y
 Includes-equal {A = A} xs x y e h = let P : A → Type 0 = λ z. Includes xs z in subst P e h

@@ -1,15 +1,8 @@
 -- Classes stay sound, and their places stay, where one class is changed and keeps its number, bases, members and flags, and what it brings.
-use Rattle.std.proofs.Common.{◌≡◌, ℕ, Bool, cond, not, ◌&&◌, ◌||◌, List, [], ◌∷◌, ◌++◌, length, Option, Some, None, inl, inr, refl, sym, ap, ◌∙◌}
-use Rattle.std.specs.Prelude.{◌==◌, nat_lt, is_some, option_map}
-use Rattle.std.specs.Int.RustNames.{bit_and}
+use Rattle.class_model.proofs.Below.{ℕ, Bool, cond, not, List, [], length, Option, Some, None, inl, inr, refl, sym, ap, ◌∙◌, nat_lt, is_some, option_map, bit_and, Includes, Class, Classes, class_at, is_class, bases_of, lin, is_along, ascend_from, with_changed, built_ins, is_empty, has_members, is_solid, solid_within, solid, base, layout_along, layout, member_count, is_place, says_dict, has_dict, has_its_dict, AreSound}
+use Rattle.std.proofs.Common.{◌≡◌, ◌&&◌, ◌||◌, ◌∷◌, ◌++◌}
+use Rattle.std.specs.Prelude.{◌==◌}
 use Rattle.py_node.specs.BuiltIns.{has_dict as dict_flag}
-use Rattle.class_model.specs.Order.{Includes}
-use Rattle.class_model.specs.Class.{Class, Classes, class_at, is_class, bases_of, lin, is_along}
-use Rattle.class_model.specs.Numbers.{ascend_from}
-use Rattle.class_model.specs.Change.{with_changed}
-use Rattle.class_model.specs.Layout.{built_ins, is_empty, has_members, is_solid, solid_within, solid, base, layout_along, layout, member_count, is_place}
-use Rattle.class_model.specs.Dict.{says_dict, has_dict, has_its_dict}
-use Rattle.class_model.specs.Sound.{AreSound}
 use Rattle.class_model.proofs.Agreed.{bind-agrees}
 use Rattle.class_model.proofs.Dict.{any_has_dict-agrees}
 use Rattle.class_model.proofs.Numbers.{numbers-changed, at-changed, length-changed}

@@ -1,15 +1,6 @@
 -- The solid class of a class derives from all solid classes along its linearisation, and a class has the same first built-in class along it as its best base.
-use Rattle.std.proofs.Common.{◌≡◌, ℕ, zero, suc, ◌≤◌, Bool, true, false, cond, ◌||◌, List, [], ◌∷◌, map, length, Option, Some, None, inl, inr, refl, sym, ap, subst, ◌∙◌, arith}
-use Rattle.std.specs.Prelude.{nat_lt, option_and_then}
-use Rattle.std.specs.List.{flat_map}
-use Rattle.std.proofs.lemmas.Bool.{ltb-true, both_ways}
-use Rattle.class_model.specs.Order.{linear, all_some, Includes, Distinct, Subsequence}
-use Rattle.class_model.specs.Class.{Class, Classes, class_at, is_class, bases_of, lin, is_sub, is_along}
-use Rattle.class_model.specs.Numbers.{limit}
-use Rattle.class_model.specs.Layout.{built_ins, has_members, is_solid, derives_all, solid_within, solid, best_of}
-use Rattle.class_model.specs.Change.{with_class}
-use Rattle.class_model.specs.Slot.{first_with}
-use Rattle.class_model.specs.Sound.{AreSound}
+use Rattle.class_model.proofs.Below.{ℕ, zero, suc, Bool, true, false, cond, List, [], map, length, Option, Some, None, inl, inr, refl, sym, ap, subst, ◌∙◌, arith, nat_lt, option_and_then, flat_map, ltb-true, both_ways, linear, all_some, Includes, Distinct, Subsequence, Class, Classes, class_at, is_class, bases_of, lin, is_sub, is_along, limit, built_ins, has_members, is_solid, derives_all, solid_within, solid, best_of, with_class, first_with, AreSound}
+use Rattle.std.proofs.Common.{◌≡◌, ◌≤◌, ◌||◌, ◌∷◌}
 use Rattle.class_model.proofs.Held.{Includes-equal, Subsequence-holds, from_flat_map}
 use Rattle.class_model.proofs.Tests.{Decides-has}
 use Rattle.class_model.proofs.Arranged.{least_order-order}

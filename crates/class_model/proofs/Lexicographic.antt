@@ -1,8 +1,7 @@
 -- The order of lists of ranks: a list is before itself, what is before is passed on, and of two lists one is before the other.
-use Rattle.std.proofs.Common.{◌≡◌, ℕ, ◌<◌, Bool, true, false, cond, List, [], ◌∷◌, Option, Some, None, ◌⊎◌, inl, inr, refl, sym, ap, ◌∙◌, arith}
-use Rattle.std.specs.Prelude.{◌&&◌, ltb, eqb}
-use Rattle.std.proofs.lemmas.Bool.{ltb-true, lt-ltb, eqb-true, eq-eqb, or_cases, or_left, or_right, and_parts, and_from, cases_order, both_ways}
-use Rattle.class_model.specs.Order.{is_lexicographic, lesser, least, Includes}
+use Rattle.class_model.proofs.Below.{ℕ, Bool, true, false, cond, List, [], Option, Some, None, inl, inr, refl, sym, ap, ◌∙◌, arith, ltb, ltb-true, lt-ltb, eqb-true, eq-eqb, or_cases, or_left, or_right, and_parts, and_from, cases_order, both_ways, is_lexicographic, lesser, least, Includes}
+use Rattle.std.proofs.Common.{◌≡◌, ◌<◌, ◌∷◌, ◌⊎◌}
+use Rattle.std.specs.Prelude.{◌&&◌, eqb}
 
 -- the head is less, or the heads are the same and the rest is before
 Ahead : ℕ → List ℕ → ℕ → List ℕ → Type 0

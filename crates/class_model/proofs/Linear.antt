@@ -1,7 +1,6 @@
 -- Linearisations by depth: what they are made of, and what they depend on.
-use Rattle.std.proofs.Common.{◌≡◌, ℕ, zero, suc, ◌≤◌, List, [], ◌∷◌, map, Option, Some, None, inl, inr, refl, sym, ap, subst, ◌∙◌, arith}
-use Rattle.std.specs.Prelude.{option_map, option_and_then}
-use Rattle.class_model.specs.Order.{least_order, all_some, linear, Includes, Distinct, BeginsWith}
+use Rattle.class_model.proofs.Below.{ℕ, zero, suc, List, [], map, Option, Some, None, inl, inr, refl, sym, ap, subst, ◌∙◌, arith, option_map, option_and_then, least_order, all_some, linear, Includes, Distinct, BeginsWith}
+use Rattle.std.proofs.Common.{◌≡◌, ◌≤◌, ◌∷◌}
 use Rattle.class_model.proofs.Arranged.{least_order-order}
 
 -- where a linearisation comes from

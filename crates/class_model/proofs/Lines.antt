@@ -1,13 +1,7 @@
 -- What a class gets that is made with some bases, whatever their number: its linearisation, its best base and its solid class.
-use Rattle.std.proofs.Common.{◌≡◌, ℕ, zero, suc, ◌<◌, ◌≤◌, true, not, cond, ◌||◌, List, [], ◌∷◌, map, length, Option, Some, None, inl, inr, refl, sym, ap, subst, ◌∙◌, arith}
-use Rattle.std.specs.Prelude.{nat_lt, option_map, option_and_then}
+use Rattle.class_model.proofs.Below.{ℕ, zero, suc, true, not, cond, List, [], map, length, Option, Some, None, inl, inr, refl, sym, ap, subst, ◌∙◌, arith, nat_lt, option_map, option_and_then, linear, least_order, all_some, Includes, Distinct, Subsequence, Class, Classes, is_class, bases_of, lin, limit, with_class, built_ins, is_empty, first_best, solid_within, solid, best_of, base, AreSound}
+use Rattle.std.proofs.Common.{◌≡◌, ◌<◌, ◌≤◌, ◌||◌, ◌∷◌}
 use Rattle.class_model.proofs.Arranged.{least_order-order}
-use Rattle.class_model.specs.Order.{linear, least_order, all_some, Includes, Distinct, Subsequence}
-use Rattle.class_model.specs.Class.{Class, Classes, is_class, bases_of, lin}
-use Rattle.class_model.specs.Numbers.{limit}
-use Rattle.class_model.specs.Change.{with_class}
-use Rattle.class_model.specs.Layout.{built_ins, is_empty, first_best, solid_within, solid, best_of, base}
-use Rattle.class_model.specs.Sound.{AreSound}
 use Rattle.class_model.proofs.Held.{Includes-equal, Subsequence-holds, Subsequence-itself, from_flat_map}
 use Rattle.class_model.proofs.Linear.{linear-made, linear-zero, all_some-holds}
 use Rattle.class_model.proofs.Agreed.{bind-agrees}

@@ -1,14 +1,6 @@
 -- Classes stay sound where one more is made, whatever its bases, and those that were there keep their places.
-use Rattle.std.proofs.Common.{◌≡◌, ℕ, suc, ◌<◌, ◌≤◌, ◌⊎◌, Bool, true, false, cond, not, ◌||◌, eqb, List, [], ◌∷◌, map, length, Option, Some, None, inl, inr, refl, sym, ap, subst, ◌∙◌, arith, length-append}
-use Rattle.std.specs.Prelude.{nat_lt, is_some, option_map, option_and_then}
-use Rattle.std.proofs.lemmas.Bool.{false_from_ne_true, ltb-true, and_parts}
-use Rattle.class_model.specs.Order.{has, Includes}
-use Rattle.class_model.specs.Class.{Class, Classes, class_at, is_class, bases_of, lin, is_sub, is_along}
-use Rattle.class_model.specs.Numbers.{numbers_of, past_all, limit}
-use Rattle.class_model.specs.Change.{with_class}
-use Rattle.class_model.specs.Layout.{is_empty, is_solid, derives_all, first_best, solid_within, solid, best_of, base, layout, member_count, is_place}
-use Rattle.class_model.specs.Dict.{says_dict, has_dict, any_has_dict, has_its_dict}
-use Rattle.class_model.specs.Sound.{AreSound}
+use Rattle.class_model.proofs.Below.{ℕ, suc, Bool, true, false, cond, not, eqb, List, [], map, length, Option, Some, None, inl, inr, refl, sym, ap, subst, ◌∙◌, arith, length-append, nat_lt, is_some, option_map, option_and_then, false_from_ne_true, ltb-true, and_parts, has, Includes, Class, Classes, class_at, is_class, bases_of, lin, is_sub, is_along, numbers_of, past_all, limit, with_class, is_empty, is_solid, derives_all, first_best, solid_within, solid, best_of, base, layout, member_count, is_place, says_dict, has_dict, any_has_dict, has_its_dict, AreSound}
+use Rattle.std.proofs.Common.{◌≡◌, ◌<◌, ◌≤◌, ◌⊎◌, ◌||◌, ◌∷◌}
 use Rattle.class_model.proofs.Numbers.{some-of, at-here, at-before, at-last, old-or-last, ascending-push}
 use Rattle.class_model.proofs.Tests.{Decides-has}
 use Rattle.class_model.proofs.Dict.{any_has_dict-agrees}

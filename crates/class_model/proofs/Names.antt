@@ -1,10 +1,6 @@
 -- The built-in classes have the first numbers.
-use Rattle.std.proofs.Common.{◌≡◌, ◌<◌, true, ltb, refl}
-use Rattle.std.proofs.lemmas.Bool.{ltb-true}
-use Rattle.py_node.specs.declared.built_in.BuiltIn.{BuiltIn}
-use Rattle.py_node.specs.declared.built_in.BuiltIn.TheVariants.{Object}
-use Rattle.py_node.specs.BuiltIns.{place_of}
-use Rattle.class_model.specs.Layout.{built_ins}
+use Rattle.class_model.proofs.Below.{true, refl, ltb-true, BuiltIn, Object, place_of, built_ins}
+use Rattle.std.proofs.Common.{◌≡◌, ◌<◌, ltb}
 
 first_test : (b : BuiltIn) → ltb (place_of b) built_ins ≡ true
 unfolding place_of

@@ -1,13 +1,6 @@
 -- Classes by their numbers.
-use Rattle.std.proofs.Common.{◌≡◌, ℕ, zero, suc, ◌<◌, ◌≤◌, ◌⊎◌, Bool, true, false, cond, ◌&&◌, eqb, List, [], ◌∷◌, ◌++◌, length, Option, Some, None, inl, inr, refl, sym, ap, subst, ◌∙◌, arith, true≢false}
-use Rattle.std.specs.Prelude.{nat_lt, leb, is_some, slice_get, option_map}
-use Rattle.std.specs.Bool.{Decides}
-use Rattle.std.proofs.lemmas.Bool.{eq-eqb, ne_eqb, eqb-true, eqb-false, ltb-true, ltb-false, lt-ltb, le-ltb, le-leb, leb-true, and_parts, false_from_ne_true}
-use Rattle.std.proofs.lemmas.List.{map-append}
-use Rattle.class_model.specs.Order.{Includes}
-use Rattle.class_model.specs.Class.{Class, Classes, class_at, is_class}
-use Rattle.class_model.specs.Numbers.{numbers_of, ascend_from, is_ascending, Ascending, past_all, limit}
-use Rattle.class_model.specs.Change.{with_class, with_changed}
+use Rattle.class_model.proofs.Below.{ℕ, zero, suc, Bool, true, false, cond, eqb, List, [], length, Option, Some, None, inl, inr, refl, sym, ap, subst, ◌∙◌, arith, true≢false, nat_lt, leb, is_some, slice_get, option_map, Decides, eq-eqb, ne_eqb, eqb-true, eqb-false, ltb-true, ltb-false, lt-ltb, le-ltb, le-leb, leb-true, and_parts, false_from_ne_true, map-append, Includes, Class, Classes, class_at, is_class, numbers_of, ascend_from, is_ascending, Ascending, past_all, limit, with_class, with_changed}
+use Rattle.std.proofs.Common.{◌≡◌, ◌<◌, ◌≤◌, ◌⊎◌, ◌&&◌, ◌∷◌, ◌++◌}
 
 pub some-of : {A : Type 0} (o : Option A) → is_some o ≡ true → (x : A) × (o ≡ Some x)
 some-of None e = absurd (true≢false (sym e))

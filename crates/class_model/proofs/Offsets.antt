@@ -1,11 +1,7 @@
 -- The layout of a class begins with those of the classes that it derives from, so that a place keeps its offset in every subclass.
-use Rattle.std.proofs.Common.{◌≡◌, ℕ, zero, suc, ◌-◌, ◌<◌, Bool, true, false, cond, List, [], ◌∷◌, ◌++◌, map, length, Option, Some, None, inl, inr, refl, sym, ap, subst, ◌∙◌, append_assoc, append-nil, arith}
-use Rattle.std.specs.Prelude.{◌⊎◌, not, is_some, nat_lt, option_map, option_and_then}
-use Rattle.std.proofs.lemmas.Bool.{both_ways, ltb-false}
-use Rattle.class_model.specs.Order.{linear, BeginsWith, Includes, Distinct, Subsequence}
-use Rattle.class_model.specs.Class.{Classes, class_at, bases_of, lin, is_sub, is_along}
-use Rattle.class_model.specs.Layout.{is_empty, is_solid, solid, best_of, base, layout_along, member_count, members_in, place_count, place_along, place_at}
-use Rattle.class_model.specs.Sound.{AreSound}
+use Rattle.class_model.proofs.Below.{ℕ, zero, suc, Bool, true, false, cond, List, [], map, length, Option, Some, None, inl, inr, refl, sym, ap, subst, ◌∙◌, append_assoc, arith, is_some, nat_lt, option_map, option_and_then, both_ways, ltb-false, linear, BeginsWith, Includes, Distinct, Subsequence, Classes, class_at, bases_of, lin, is_sub, is_along, is_empty, is_solid, solid, best_of, base, layout_along, member_count, members_in, place_count, place_along, place_at, AreSound}
+use Rattle.std.proofs.Common.{◌≡◌, ◌-◌, ◌<◌, ◌∷◌, ◌++◌, append-nil}
+use Rattle.std.specs.Prelude.{◌⊎◌, not}
 use Rattle.class_model.proofs.Held.{Includes-equal, Subsequence-holds, Subsequence-rest, from_flat_map}
 use Rattle.class_model.proofs.Tests.{Decides-has}
 use Rattle.class_model.proofs.Arranged.{least_order-order}

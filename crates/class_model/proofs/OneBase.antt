@@ -1,6 +1,6 @@
 -- With one base a class has one order, itself before the base's linearisation; with none it stands alone.
-use Rattle.std.proofs.Common.{◌≡◌, ℕ, List, [], ◌∷◌, ◌++◌, Some, inl, inr, refl, sym, subst, ◌∙◌}
-use Rattle.class_model.specs.Order.{members_of, least_order, Includes, Distinct, Subsequence, BeginsWith, IsOrder}
+use Rattle.class_model.proofs.Below.{ℕ, List, [], Some, inl, inr, refl, sym, subst, ◌∙◌, members_of, least_order, Includes, Distinct, Subsequence, BeginsWith, IsOrder}
+use Rattle.std.proofs.Common.{◌≡◌, ◌∷◌, ◌++◌}
 use Rattle.class_model.proofs.Held.{Includes-equal, Includes-left, Includes-sides, Subsequence-more, Subsequence-itself, Subsequence-full, Subsequence-rest, distinct-fewer}
 use Rattle.class_model.proofs.Arranged.{least_order-only}
 

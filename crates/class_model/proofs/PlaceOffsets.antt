@@ -1,13 +1,7 @@
 -- Each place of a class's objects has an offset of its own, below the count of their places, and the same one in every subclass.
-use Rattle.std.proofs.Common.{◌≡◌, ℕ, ◌+◌, ◌-◌, ◌<◌, ◌≤◌, Bool, true, false, cond, eqb, not, ◌||◌, List, [], ◌∷◌, ◌++◌, Option, Some, None, inl, inr, refl, sym, ap, subst, ◌∙◌, arith}
-use Rattle.std.specs.Prelude.{◌&&◌, is_some, nat_lt, option_map, option_and_then}
-use Rattle.std.proofs.lemmas.Bool.{and_parts, both_ways, eq-eqb, eqb-false, eqb-true, le-ltb, lt-ltb, ltb-false, ltb-true, ne_eqb}
-use Rattle.class_model.specs.Order.{Includes, Distinct}
-use Rattle.class_model.specs.Class.{Class, Classes, class_at, is_along, is_class, is_sub, lin}
-use Rattle.class_model.specs.Layout.{built_ins, is_empty, has_members, is_solid, layout_along, layout, member_count, is_place, members_in, before, place_count, first_place, place_along, place_at}
-use Rattle.class_model.specs.Change.{with_changed}
-use Rattle.class_model.specs.Offset.{offset_of}
-use Rattle.class_model.specs.Sound.{AreSound}
+use Rattle.class_model.proofs.Below.{ℕ, Bool, true, false, cond, eqb, not, List, [], Option, Some, None, inl, inr, refl, sym, ap, subst, ◌∙◌, arith, is_some, nat_lt, option_map, option_and_then, and_parts, both_ways, eq-eqb, eqb-false, eqb-true, le-ltb, lt-ltb, ltb-false, ltb-true, ne_eqb, Includes, Distinct, Class, Classes, class_at, is_along, is_class, is_sub, lin, built_ins, is_empty, has_members, is_solid, layout_along, layout, member_count, is_place, members_in, before, place_count, first_place, place_along, place_at, with_changed, offset_of, AreSound}
+use Rattle.std.proofs.Common.{◌≡◌, ◌+◌, ◌-◌, ◌<◌, ◌≤◌, ◌||◌, ◌∷◌, ◌++◌}
+use Rattle.std.specs.Prelude.{◌&&◌}
 use Rattle.class_model.proofs.Held.{Includes-equal, Includes-left, Includes-right, Includes-sides}
 use Rattle.class_model.proofs.Tests.{Decides-has}
 use Rattle.class_model.proofs.Kept.{layout-agrees, lin-kept}

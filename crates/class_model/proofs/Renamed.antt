@@ -1,18 +1,6 @@
 -- Other keys change nothing.
-use Rattle.std.proofs.Common.{◌≡◌, ℕ, Bool, true, false, cond, not, ◌&&◌, ◌||◌, eqb, List, [], ◌∷◌, ◌++◌, map, length, Option, Some, None, refl, ap, ◌∙◌}
-use Rattle.std.specs.Prelude.{nat_lt, option_map, option_and_then}
-use Rattle.std.proofs.lemmas.List.{length-map}
-use Rattle.py_node.specs.declared.refs.PyObjectRef.{PyObjectRef}
-use Rattle.py_node.specs.declared.entry.SlotId.{SlotId}
-use Rattle.py_node.specs.declared.entry.SlotEntry.{SlotEntry}
-use Rattle.py_node.specs.declared.known.Known.{Known}
-use Rattle.py_node.specs.Attributes.{value_of}
-use Rattle.py_node.specs.Slots.{names_of, all_slots, sort_of}
-use Rattle.class_model.specs.Order.{has, linear}
-use Rattle.class_model.specs.Class.{Class, Classes, class_at, bases_of, lin, is_along, is_sub, own_of, along, found_by, found, past_first, found_past, subclasses, rekeyed, renamed}
-use Rattle.class_model.specs.Numbers.{numbers_of}
-use Rattle.class_model.specs.Layout.{best_of, built_ins, is_empty, has_members, is_solid, solid_within, solid, base, layout_along, layout, member_count, is_place}
-use Rattle.class_model.specs.Slot.{Keys, Natives, is_one_of, is_name_of, is_heap_at, entry, entries, read_along, slot, is_other_node, is_overridden, goes_first, without_same, in_turn, candidates_of}
+use Rattle.class_model.proofs.Below.{ℕ, Bool, true, false, cond, not, eqb, List, [], map, length, Option, Some, None, refl, ap, ◌∙◌, nat_lt, option_map, option_and_then, length-map, PyObjectRef, SlotId, SlotEntry, Known, value_of, names_of, all_slots, sort_of, has, linear, Class, Classes, class_at, bases_of, lin, is_along, is_sub, own_of, along, found_by, found, past_first, found_past, subclasses, rekeyed, renamed, numbers_of, best_of, built_ins, is_empty, has_members, is_solid, solid_within, solid, base, layout_along, layout, member_count, is_place, Keys, Natives, is_one_of, is_name_of, is_heap_at, entry, entries, read_along, slot, is_other_node, is_overridden, goes_first, without_same, in_turn, candidates_of}
+use Rattle.std.proofs.Common.{◌≡◌, ◌&&◌, ◌||◌, ◌∷◌, ◌++◌}
 use Rattle.class_model.proofs.Linear.{linear-same}
 use Rattle.class_model.proofs.Agreed.{bind-agrees, first_along-agrees, entry-agrees}
 use Rattle.class_model.proofs.Solid.{first_best-agrees, solid_within-same, base-agrees}

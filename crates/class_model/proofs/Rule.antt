@@ -1,10 +1,6 @@
 -- Linearisations in a table of classes, with no depth in what is said.
-use Rattle.std.proofs.Common.{◌≡◌, ℕ, zero, suc, ◌<◌, true, List, [], ◌∷◌, map, length, Option, Some, None, inl, inr, refl, sym, ap, ◌∙◌, arith}
-use Rattle.std.specs.Prelude.{is_some, option_map, option_and_then}
-use Rattle.std.proofs.lemmas.List.{length-map}
-use Rattle.class_model.specs.Order.{has, least_order, all_some, linear, Includes, Distinct, BeginsWith}
-use Rattle.class_model.specs.Class.{Class, Classes, class_at, is_class, bases_of, lin, IsLeastLine}
-use Rattle.class_model.specs.Numbers.{numbers_of, limit}
+use Rattle.class_model.proofs.Below.{ℕ, zero, suc, true, List, [], map, length, Option, Some, None, inl, inr, refl, sym, ap, ◌∙◌, arith, is_some, option_map, option_and_then, length-map, has, least_order, all_some, linear, Includes, Distinct, BeginsWith, Class, Classes, class_at, is_class, bases_of, lin, IsLeastLine, numbers_of, limit}
+use Rattle.std.proofs.Common.{◌≡◌, ◌<◌, ◌∷◌}
 use Rattle.class_model.proofs.Held.{Includes-flat_map, distinct-fewer}
 use Rattle.class_model.proofs.Tests.{Decides-has}
 use Rattle.class_model.proofs.Arranged.{least_order-order, least_order-least}

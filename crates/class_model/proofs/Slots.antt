@@ -1,15 +1,6 @@
 -- The slots of a class after one more class, and after an attribute was set.
-use Rattle.std.proofs.Common.{◌≡◌, ℕ, Bool, true, false, cond, List, [], ◌∷◌, map, Some, None, refl, sym, ap, subst, ◌∙◌}
-use Rattle.std.specs.Prelude.{option_map}
-use Rattle.std.proofs.lemmas.Bool.{false≢true}
-use Rattle.py_node.specs.declared.refs.PyObjectRef.{PyObjectRef}
-use Rattle.py_node.specs.declared.entry.SlotId.{SlotId}
-use Rattle.py_node.specs.Attributes.{value_of, with_value}
-use Rattle.py_node.specs.Slots.{names_of, all_slots, sort_of}
-use Rattle.class_model.specs.Order.{has, Includes}
-use Rattle.class_model.specs.Class.{Class, Classes, class_at, lin, own_of, along, found_by, found}
-use Rattle.class_model.specs.Slot.{Keys, Natives, is_one_of, is_name_of, is_heap_at, entry, entries, read_along, slot}
-use Rattle.class_model.specs.Change.{with_class, with_class_attr}
+use Rattle.class_model.proofs.Below.{ℕ, Bool, true, false, cond, List, [], map, Some, None, refl, sym, ap, subst, ◌∙◌, option_map, false≢true, PyObjectRef, SlotId, value_of, with_value, names_of, all_slots, sort_of, has, Includes, Class, Classes, class_at, lin, own_of, along, found_by, found, Keys, Natives, is_one_of, is_name_of, is_heap_at, entry, entries, read_along, slot, with_class, with_class_attr}
+use Rattle.std.proofs.Common.{◌≡◌, ◌∷◌}
 use Rattle.class_model.proofs.Held.{Includes-equal}
 use Rattle.class_model.proofs.Tests.{Decides-has}
 use Rattle.class_model.proofs.Numbers.{at-before, at-changed, at-changed_away}

@@ -1,14 +1,6 @@
 -- The solid class and the best base of a class, after one more class and after an attribute was set.
-use Rattle.std.proofs.Common.{◌≡◌, ℕ, zero, suc, ◌<◌, ◌≤◌, Bool, true, false, cond, ◌&&◌, ◌||◌, List, [], ◌∷◌, map, length, Option, Some, None, inl, inr, refl, sym, ap, subst, ◌∙◌, arith, length-append}
-use Rattle.std.proofs.lemmas.Bool.{lt-ltb}
-use Rattle.std.specs.Prelude.{nat_lt, option_map, option_and_then}
-use Rattle.py_node.specs.declared.refs.PyObjectRef.{PyObjectRef}
-use Rattle.py_node.specs.Attributes.{with_value}
-use Rattle.class_model.specs.Order.{linear, Includes}
-use Rattle.class_model.specs.Class.{Class, Classes, is_class, bases_of, lin, is_sub, is_along}
-use Rattle.class_model.specs.Numbers.{limit}
-use Rattle.class_model.specs.Change.{with_class, with_class_attr}
-use Rattle.class_model.specs.Layout.{built_ins, has_members, is_solid, derives_all, first_best, solid_within, solid, best_of, base}
+use Rattle.class_model.proofs.Below.{ℕ, zero, suc, Bool, true, false, cond, List, [], map, length, Option, Some, None, inl, inr, refl, sym, ap, subst, ◌∙◌, arith, length-append, lt-ltb, nat_lt, option_map, option_and_then, PyObjectRef, with_value, linear, Includes, Class, Classes, is_class, bases_of, lin, is_sub, is_along, limit, with_class, with_class_attr, built_ins, has_members, is_solid, derives_all, first_best, solid_within, solid, best_of, base}
+use Rattle.std.proofs.Common.{◌≡◌, ◌<◌, ◌≤◌, ◌&&◌, ◌||◌, ◌∷◌}
 use Rattle.class_model.proofs.Linear.{linear-made, linear-zero, all_some-has}
 use Rattle.class_model.proofs.Rule.{lin-itself, lin-member, lin-inside, lin-within, lin-bases, lin-held}
 use Rattle.class_model.proofs.Changed.{bases_of-before, bases_of-last, lin-push, lin-attr}

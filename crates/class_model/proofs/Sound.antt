@@ -1,10 +1,6 @@
 -- Classes are sound under other keys too.
-use Rattle.std.proofs.Common.{◌≡◌, ℕ, ◌||◌, List, refl, sym, ap, ◌∙◌}
-use Rattle.std.specs.Prelude.{is_some}
-use Rattle.class_model.specs.Class.{Classes, class_at, is_class, renamed}
-use Rattle.class_model.specs.Numbers.{ascend_from}
-use Rattle.class_model.specs.Dict.{says_dict, has_dict, any_has_dict, has_its_dict}
-use Rattle.class_model.specs.Sound.{AreSound}
+use Rattle.class_model.proofs.Below.{ℕ, List, refl, sym, ap, ◌∙◌, is_some, Classes, class_at, is_class, renamed, ascend_from, says_dict, has_dict, any_has_dict, has_its_dict, AreSound}
+use Rattle.std.proofs.Common.{◌≡◌, ◌||◌}
 use Rattle.class_model.proofs.Renamed.{at-renamed, numbers-renamed, bases_of-renamed, lin-renamed, is_sub-renamed, solid-renamed, base-renamed}
 use Rattle.class_model.proofs.Dict.{any_has_dict-agrees}
 

@@ -1,14 +1,6 @@
 -- The subclasses of a class, after one more class and after an attribute was set.
-use Rattle.std.proofs.Common.{◌≡◌, ℕ, suc, ◌<◌, ◌≤◌, Bool, true, false, cond, ◌||◌, eqb, List, [], ◌∷◌, ◌++◌, Some, refl, sym, ap, ◌∙◌, arith}
-use Rattle.std.specs.Prelude.{is_some, slice_get, option_map}
-use Rattle.std.proofs.lemmas.Bool.{eq-eqb, ne_eqb, false_from_ne_true}
-use Rattle.std.proofs.lemmas.List.{append-nil}
-use Rattle.py_node.specs.declared.refs.PyObjectRef.{PyObjectRef}
-use Rattle.py_node.specs.Attributes.{with_value}
-use Rattle.class_model.specs.Order.{has, Includes}
-use Rattle.class_model.specs.Class.{Class, Classes, is_class, lin, subclasses}
-use Rattle.class_model.specs.Numbers.{is_ascending, limit}
-use Rattle.class_model.specs.Change.{with_class, with_class_attr}
+use Rattle.class_model.proofs.Below.{ℕ, suc, Bool, true, false, cond, eqb, List, [], Some, refl, sym, ap, ◌∙◌, arith, is_some, slice_get, option_map, eq-eqb, ne_eqb, false_from_ne_true, append-nil, PyObjectRef, with_value, has, Includes, Class, Classes, is_class, lin, subclasses, is_ascending, limit, with_class, with_class_attr}
+use Rattle.std.proofs.Common.{◌≡◌, ◌<◌, ◌≤◌, ◌||◌, ◌∷◌, ◌++◌}
 use Rattle.class_model.proofs.Numbers.{at-from_place, below-limit}
 use Rattle.class_model.proofs.Tests.{Decides-has}
 use Rattle.class_model.proofs.Rule.{lin-below, lin-bases}

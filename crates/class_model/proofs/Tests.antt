@@ -1,9 +1,6 @@
 -- What the tests of orders decide.
-use Rattle.std.proofs.Common.{◌≡◌, ℕ, Bool, true, false, cond, not, ◌&&◌, eqb, List, [], ◌∷◌, inl, inr, refl, subst}
-use Rattle.std.specs.Bool.{Decides}
-use Rattle.std.proofs.lemmas.Bool.{eqb-true, eqb-false, false≢true}
-use Rattle.std.proofs.lemmas.Bool.Decides.{Decides-eqb, Decides-not, Decides-and, Decides-or, Decides-like}
-use Rattle.class_model.specs.Order.{has, is_within, is_distinct, is_subsequence, are_subsequences, begins_with, members_of, is_order, Includes, Distinct, Subsequence, BeginsWith, IsOrder}
+use Rattle.class_model.proofs.Below.{ℕ, Bool, true, false, cond, not, eqb, List, [], inl, inr, refl, subst, Decides, eqb-true, eqb-false, false≢true, Decides-eqb, Decides-not, Decides-and, Decides-or, Decides-like, has, is_within, is_distinct, is_subsequence, are_subsequences, begins_with, members_of, is_order, Includes, Distinct, Subsequence, BeginsWith, IsOrder}
+use Rattle.std.proofs.Common.{◌≡◌, ◌&&◌, ◌∷◌}
 use Rattle.class_model.proofs.Held.{Subsequence-skip}
 
 pub Decides-has : (ys : List ℕ) (x : ℕ) → Decides (has ys x) (Includes ys x)

@@ -1,28 +1,13 @@
 -- What stands in the slots of the built-in classes: their own attributes say it.
-use Rattle.std.specs.Prelude.{ℕ, Bool, not, cond, ◌&&◌, ◌||◌, List, Option, Some, None, find, option_and_then, slice_get}
-use Rattle.std.specs.List.{list_any}
+use Rattle.class_model.specs.Below.{ℕ, Bool, not, cond, List, Option, Some, None, find, option_and_then, slice_get, list_any, Attr, BuiltIn, All, NativeEntry, OfObject, OfType, NewOf, Compare, SlotId, Richcompare, SlotEntry, Native, Unhashable, Known, Filling, BySpecial, NotDict, Number, Sequence, all_built_ins, own_attrs, is_slot, names_of, filling_of}
+use Rattle.std.specs.Prelude.{◌&&◌, ◌||◌}
 use denote.Enum.Bare.{sameb}
 use Rattle.py_node.specs.contracts.built_in.BuiltIn.{the_type as built_in_type}
 use Rattle.py_node.specs.contracts.known.Known.{the_type as known_type}
-use Rattle.py_node.specs.declared.attr.Attr.{Attr}
 use Rattle.py_node.specs.declared.attr.Attr.TheVariants as attr
-use Rattle.py_node.specs.declared.built_in.BuiltIn.{BuiltIn}
 use Rattle.py_node.specs.declared.built_in.BuiltIn.TheVariants as built_in
-use Rattle.py_node.specs.declared.entry.CompareNative.TheVariants.{All}
-use Rattle.py_node.specs.declared.entry.NativeEntry.{NativeEntry}
-use Rattle.py_node.specs.declared.entry.NativeEntry.TheVariants.{OfObject, OfType, NewOf, Compare}
 use Rattle.py_node.specs.declared.entry.ObjectNative.TheVariants as object
 use Rattle.py_node.specs.declared.entry.TypeNative.TheVariants as type
-use Rattle.py_node.specs.declared.entry.SlotId.{SlotId}
-use Rattle.py_node.specs.declared.entry.SlotId.TheVariants.{Richcompare}
-use Rattle.py_node.specs.declared.entry.SlotEntry.{SlotEntry}
-use Rattle.py_node.specs.declared.entry.SlotEntry.TheVariants.{Native, Unhashable}
-use Rattle.py_node.specs.declared.known.Known.{Known}
-use Rattle.py_node.specs.declared.slots.Filling.{Filling}
-use Rattle.py_node.specs.declared.slots.Filling.TheVariants.{BySpecial, NotDict, Number, Sequence}
-use Rattle.py_node.specs.BuiltIns.{all_built_ins}
-use Rattle.py_node.specs.OwnAttrs.{own_attrs}
-use Rattle.py_node.specs.Slots.{is_slot, names_of, filling_of}
 
 abbrev pub is_known : Known → Known → Bool
 is_known = sameb known_type

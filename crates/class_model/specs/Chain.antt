@@ -1,5 +1,6 @@
 -- A class, its best base, and so on.
-use Rattle.std.specs.Prelude.{◌≡◌, ℕ, zero, suc, List, [], ◌∷◌, length, Option, Some, None}
+use Rattle.class_model.specs.Below.{ℕ, zero, suc, List, [], length, Option, Some, None}
+use Rattle.std.specs.Prelude.{◌≡◌, ◌∷◌}
 use Rattle.class_model.specs.Class.{Classes}
 use Rattle.class_model.specs.Layout.{base}
 

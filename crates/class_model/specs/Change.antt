@@ -1,10 +1,6 @@
 -- How classes are changed, and the class that is to blame where new bases leave no order.
-use Rattle.std.specs.Prelude.{ℕ, Bool, false, cond, eqb, ◌&&◌, ◌||◌, List, [], ◌∷◌, ◌++◌, map, Option, Some, None, is_some, is_none, option_map, option_and_then}
-use Rattle.py_node.specs.declared.refs.PyObjectRef.{PyObjectRef}
-use Rattle.py_node.specs.Attributes.{with_value, without_key}
-use Rattle.py_node.specs.declared.raised.Cause.{Cause}
-use Rattle.py_node.specs.declared.raised.Cause.TheVariants.{LocalPrecedence, MroConflict}
-use Rattle.py_node.specs.Tree.{Text}
+use Rattle.class_model.specs.Below.{ℕ, Bool, false, cond, eqb, List, [], map, Option, Some, None, is_some, is_none, option_map, option_and_then, PyObjectRef, with_value, without_key, Cause, LocalPrecedence, MroConflict, Text}
+use Rattle.std.specs.Prelude.{◌&&◌, ◌||◌, ◌∷◌, ◌++◌}
 use Rattle.class_model.specs.Order.{has, all_some}
 use Rattle.class_model.specs.Class.{Class, Classes, lin, bases_of, past_first}
 

@@ -1,10 +1,6 @@
 -- Classes, and how an attribute of one is found.
-use Rattle.std.specs.Prelude.{◌≡◌, ℕ, Bool, false, cond, ◌==◌, eqb, List, [], ◌∷◌, map, length, Option, Some, None, is_some, option_map, option_and_then}
-use Rattle.std.specs.Int.RustNames.{bit_and}
-use Rattle.py_node.specs.declared.refs.PyObjectRef.{PyObjectRef}
-use Rattle.py_node.specs.Attributes.{value_of}
-use Rattle.py_node.specs.BuiltIns.{heap_type}
-use Rattle.py_node.specs.Tree.{Text}
+use Rattle.class_model.specs.Below.{ℕ, Bool, false, cond, eqb, List, [], map, length, Option, Some, None, is_some, option_map, option_and_then, bit_and, PyObjectRef, value_of, heap_type, Text}
+use Rattle.std.specs.Prelude.{◌≡◌, ◌==◌, ◌∷◌}
 use Rattle.class_model.specs.Order.{has, linear, IsLeastOrder}
 
 -- a class: its name, the number of the object that stands for it, its bases, its own attributes in order, the names of its members, its flags, and whether it brings its objects a dict itself. A class is known by its number, and so are its bases

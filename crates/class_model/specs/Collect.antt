@@ -1,7 +1,6 @@
 -- The attributes of a class and of all along its linearisation.
-use Rattle.std.specs.Prelude.{ℕ, Bool, List, [], ◌∷◌, Option, Some, None, option_map}
-use Rattle.py_node.specs.declared.refs.PyObjectRef.{PyObjectRef}
-use Rattle.py_node.specs.Attributes.{with_value}
+use Rattle.class_model.specs.Below.{ℕ, Bool, List, [], Option, Some, None, option_map, PyObjectRef, with_value}
+use Rattle.std.specs.Prelude.{◌∷◌}
 use Rattle.class_model.specs.Class.{Class, Classes, class_at, lin}
 
 -- with the values of others too, one after the other: a name that is there keeps its place

@@ -1,10 +1,6 @@
 -- Which classes give their objects a dict.
-use Rattle.std.specs.Prelude.{ℕ, zero, suc, Bool, true, false, not, ◌||◌, List, [], ◌∷◌, filter, length, Option, Some, None}
-use Rattle.std.specs.List.{list_any}
-use Rattle.py_node.specs.declared.refs.PyObjectRef.{PyObjectRef}
-use Rattle.py_node.specs.declared.known.Known.TheVariants.{Dict}
-use Rattle.py_node.specs.BuiltIns.{has_dict as dict_flag, heap_flags}
-use Rattle.py_node.specs.Tree.{Text}
+use Rattle.class_model.specs.Below.{ℕ, zero, suc, Bool, true, false, not, List, [], filter, length, Option, Some, None, list_any, PyObjectRef, Dict, has_dict as dict_flag, heap_flags, Text}
+use Rattle.std.specs.Prelude.{◌||◌, ◌∷◌}
 use Rattle.class_model.specs.Class.{Class, Classes, class_at, has_flag}
 use Rattle.class_model.specs.Slot.{Keys}
 

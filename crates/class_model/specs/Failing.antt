@@ -1,7 +1,6 @@
 -- The class that is to blame where new bases leave no order, in words.
-use Rattle.std.specs.Prelude.{◌≡◌, ℕ, ◌<◌, ◌≤◌, ◌↔◌, List, map, Some, None, slice_get}
-use Rattle.py_node.specs.declared.raised.Cause.{Cause}
-use Rattle.py_node.specs.declared.raised.Cause.TheVariants.{LocalPrecedence, MroConflict}
+use Rattle.class_model.specs.Below.{ℕ, List, map, Some, None, slice_get, Cause, LocalPrecedence, MroConflict}
+use Rattle.std.specs.Prelude.{◌≡◌, ◌<◌, ◌≤◌, ◌↔◌}
 use Rattle.class_model.specs.Order.{Includes, IsOrder}
 use Rattle.class_model.specs.Class.{Classes, bases_of, lin, past_first}
 use Rattle.class_model.specs.Change.{with_bases, failing}

@@ -1,6 +1,6 @@
 -- Solid classes, the best base of a class, and its layout.
-use Rattle.std.specs.Prelude.{ℕ, zero, suc, ◌+◌, ◌-◌, Bool, true, false, cond, eqb, not, ◌&&◌, ◌||◌, nat_lt, List, [], ◌∷◌, ◌++◌, map, length, Option, Some, None, option_map, option_and_then}
-use Rattle.py_node.specs.BuiltIns.{built_in_count}
+use Rattle.class_model.specs.Below.{ℕ, zero, suc, Bool, true, false, cond, eqb, not, nat_lt, List, [], map, length, Option, Some, None, option_map, option_and_then, built_in_count}
+use Rattle.std.specs.Prelude.{◌+◌, ◌-◌, ◌&&◌, ◌||◌, ◌∷◌, ◌++◌}
 use Rattle.class_model.specs.Class.{Class, Classes, class_at, is_along, is_sub, lin, bases_of}
 
 -- how many classes are built in: they have the first numbers

@@ -1,6 +1,6 @@
 -- What a class is called.
-use Rattle.std.specs.Prelude.{ℕ, cond, eqb, [], ◌∷◌}
-use Rattle.py_node.specs.Tree.{Text}
+use Rattle.class_model.specs.Below.{ℕ, cond, eqb, [], Text}
+use Rattle.std.specs.Prelude.{◌∷◌}
 use Rattle.class_model.specs.Class.{Class, is_heap}
 
 -- the dot that parts names

@@ -1,5 +1,6 @@
 -- The numbers of classes: they ascend, with gaps between.
-use Rattle.std.specs.Prelude.{◌≡◌, ℕ, suc, ◌<◌, Bool, true, cond, ◌&&◌, nat_lt, leb, List, [], ◌∷◌, map, Some, slice_get}
+use Rattle.class_model.specs.Below.{ℕ, suc, Bool, true, cond, nat_lt, leb, List, [], map, Some, slice_get}
+use Rattle.std.specs.Prelude.{◌≡◌, ◌<◌, ◌&&◌, ◌∷◌}
 use Rattle.class_model.specs.Class.{Class, Classes}
 
 abbrev pub numbers_of : {K : Type 0} → Classes K → List ℕ

@@ -1,5 +1,6 @@
 -- Where the places of an object lie, one after another.
-use Rattle.std.specs.Prelude.{ℕ, ◌+◌, cond, Option, None, option_map}
+use Rattle.class_model.specs.Below.{ℕ, cond, Option, None, option_map}
+use Rattle.std.specs.Prelude.{◌+◌}
 use Rattle.class_model.specs.Class.{Classes}
 use Rattle.class_model.specs.Layout.{is_place, first_place}
 

@@ -1,6 +1,6 @@
 -- The linearisation of a class: of all its consistent orders the least, by the ranks of its members.
-use Rattle.std.specs.Prelude.{◌≡◌, ℕ, zero, suc, Bool, true, false, cond, not, ◌&&◌, ◌||◌, ◌⊎◌, eqb, ltb, List, [], ◌∷◌, map, filter, length, Option, Some, None, IsTrue, option_map, option_and_then}
-use Rattle.std.specs.List.{flat_map}
+use Rattle.class_model.specs.Below.{ℕ, zero, suc, Bool, true, false, cond, not, eqb, ltb, List, [], map, filter, length, Option, Some, None, IsTrue, option_map, option_and_then, flat_map}
+use Rattle.std.specs.Prelude.{◌≡◌, ◌&&◌, ◌||◌, ◌⊎◌, ◌∷◌}
 
 -- tests on lists of classes
 

@@ -1,18 +1,7 @@
 -- What a class has in a slot, and what is read there.
-use Rattle.std.specs.Prelude.{ℕ, Bool, true, false, cond, not, ◌&&◌, ◌||◌, eqb, List, [], ◌∷◌, map, Option, Some, None, option_and_then, is_some}
-use Rattle.py_node.specs.declared.refs.PyObjectRef.{PyObjectRef}
-use Rattle.py_node.specs.declared.entry.SlotId.{SlotId}
-use Rattle.py_node.specs.declared.entry.SlotId.TheVariants.{Hash, New}
-use Rattle.py_node.specs.declared.entry.SlotEntry.{SlotEntry}
-use Rattle.py_node.specs.declared.entry.SlotEntry.TheVariants.{Wrapper, Unhashable}
+use Rattle.class_model.specs.Below.{ℕ, Bool, true, false, cond, not, eqb, List, [], map, Option, Some, None, option_and_then, is_some, PyObjectRef, SlotId, Hash, New, SlotEntry, Wrapper, Unhashable, the_type as sort_type, Known, Sort, ByItself, BySequence, ByMapping, Nearest, fixed_none, is_slot, names_of, all_slots, sort_of, is_same_entry}
+use Rattle.std.specs.Prelude.{◌&&◌, ◌||◌, ◌∷◌}
 use denote.Enum.Bare.{sameb}
-use Rattle.py_node.specs.contracts.slots.Sort.{the_type as sort_type}
-use Rattle.py_node.specs.declared.known.Known.{Known}
-use Rattle.py_node.specs.declared.slots.Sort.{Sort}
-use Rattle.py_node.specs.declared.slots.Sort.TheVariants.{ByItself, BySequence, ByMapping, Nearest}
-use Rattle.py_node.specs.BuiltIns.{fixed_none}
-use Rattle.py_node.specs.Slots.{is_slot, names_of, all_slots, sort_of}
-use Rattle.py_node.specs.Natives.{is_same_entry}
 use Rattle.class_model.specs.Class.{Class, Classes, class_at, is_heap, lin, is_sub, found, own_of, first_along, along}
 
 -- how classes name their attributes: whether two keys are one, and the key of each name that every world knows

@@ -1,5 +1,6 @@
 -- What the classes of a machine keep to.
-use Rattle.std.specs.Prelude.{◌≡◌, ℕ, true, false, not, eqb, List, Some, is_some}
+use Rattle.class_model.specs.Below.{ℕ, true, false, not, eqb, List, Some, is_some}
+use Rattle.std.specs.Prelude.{◌≡◌}
 use Rattle.class_model.specs.Order.{Includes}
 use Rattle.class_model.specs.Class.{Classes, class_at, is_class, bases_of, is_sub, lin}
 use Rattle.class_model.specs.Numbers.{is_ascending}

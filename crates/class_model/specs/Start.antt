@@ -1,8 +1,6 @@
 -- The built-in classes, as they are before they get attributes.
-use Rattle.std.specs.Prelude.{ℕ, ◌==◌, List, [], ◌∷◌, Option, Some, None, map}
-use Rattle.std.specs.Int.RustNames.{bit_and}
-use Rattle.py_node.specs.declared.built_in.BuiltIn.{BuiltIn}
-use Rattle.py_node.specs.BuiltIns.{place_of, name_of, base_of, flags_of, has_dict, all_built_ins}
+use Rattle.class_model.specs.Below.{ℕ, List, [], Option, Some, None, map, bit_and, BuiltIn, place_of, name_of, base_of, flags_of, has_dict, all_built_ins}
+use Rattle.std.specs.Prelude.{◌==◌, ◌∷◌}
 use Rattle.class_model.specs.Class.{Class, Classes}
 
 abbrev pub bases_from : Option ℕ → List ℕ

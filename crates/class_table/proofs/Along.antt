@@ -1,25 +1,8 @@
 -- What is found along some classes.
-use Rattle.std.proofs.Common.{◌≡◌, ℕ, zero, suc, inl, inr, ◌+◌, ◌<◌, ◌≤◌, ◌||◌, ◌&&◌, not, Bool, true, false, cond, List, [], ◌∷◌, length, get_or, drop, map, Option, Some, None, refl, sym, ap, ◌∙◌, arith}
-use Rattle.std.specs.Prelude.{option_and_then}
-use Rattle.std.proofs.lemmas.List.{drop_more}
-use Rattle.std.proofs.Math.ListN.{drop_of_length-le}
-use Rattle.py_node.specs.declared.refs.PyObjectRef.{PyObjectRef}
-use Rattle.py_node.specs.declared.refs.PyStrInterned.{PyStrInterned}
-use Rattle.py_node.specs.declared.refs.PyTypeRef.{PyTypeRef}
-use Rattle.py_node.specs.declared.entry.SlotId.{SlotId}
-use Rattle.py_node.specs.declared.entry.SlotId.TheVariants.{Hash}
-use Rattle.py_node.specs.declared.entry.SlotEntry.{SlotEntry}
-use Rattle.py_node.specs.declared.entry.SlotEntry.TheVariants.{Unhashable, Wrapper}
-use Rattle.py_node.specs.Attributes.{value_of, is_same_name}
-use Rattle.py_node.specs.declared.known.Known.{Known}
+use Rattle.class_table.proofs.Below.{ℕ, zero, suc, inl, inr, not, Bool, true, false, cond, List, [], length, get_or, drop, map, Option, Some, None, refl, sym, ap, ◌∙◌, arith, option_and_then, drop_more, drop_of_length-le, PyObjectRef, PyStrInterned, PyTypeRef, SlotId, Hash, SlotEntry, Unhashable, Wrapper, value_of, is_same_name, Known, is_slot, names_of, sort_of, Includes, Class, Classes, class_at, is_heap, lin, own_of, or_else, first_along, along, is_one_of, is_name_of, wrapped, heap_entry, is_heap_at, given_entry, is_by_itself, entry, natives_of, numbers, table_keys, StoredClass, classes_of}
+use Rattle.std.proofs.Common.{◌≡◌, ◌+◌, ◌<◌, ◌≤◌, ◌||◌, ◌&&◌, ◌∷◌}
 use Rattle.py_node.specs.declared.known.Known.TheVariants as known
-use Rattle.py_node.specs.Slots.{is_slot, names_of, sort_of}
-use Rattle.class_model.specs.Order.{Includes}
-use Rattle.class_model.specs.Class.{Class, Classes, class_at, is_heap, lin, own_of, or_else, first_along, along}
-use Rattle.class_model.specs.Slot.{is_none, is_one_of, is_name_of, wrapped, heap_entry, is_heap_at, given_entry, is_by_itself, entry}
-use Rattle.class_model.specs.BuiltIn.{natives_of}
-use Rattle.class_table.specs.Keys.{numbers, table_keys}
-use Rattle.class_table.specs.Stored.{StoredClass, classes_of}
+use Rattle.class_model.specs.Slot.{is_none}
 use Rattle.class_table.proofs.Slots.{names-hash}
 
 pub wrapped_or_else : (s : SlotId) (a b : Option PyObjectRef) → wrapped s (or_else a b) ≡ or_else (wrapped s a) (wrapped s b)

@@ -1,19 +1,6 @@
 -- What is kept is read.
-use Rattle.std.proofs.Common.{◌≡◌, ℕ, true, List, Some, Option, sym, ap, subst, ◌∙◌}
-use Rattle.std.specs.Prelude.{slice_get, option_and_then}
-use Rattle.py_node.specs.declared.entry.SlotId.{SlotId}
-use Rattle.py_node.specs.declared.entry.SlotEntry.{SlotEntry}
-use Rattle.py_node.specs.Slots.{place_of, sort_of}
-use Rattle.class_model.specs.Order.{Includes}
-use Rattle.class_model.specs.Class.{is_class, lin, subclasses}
-use Rattle.class_model.specs.Layout.{base, solid}
-use Rattle.class_model.specs.Slot.{entry, slot, read_along}
-use Rattle.class_model.specs.BuiltIn.{natives_of}
-use Rattle.class_model.proofs.Rule.{lin-classes}
-use Rattle.class_table.specs.Keys.{table_keys}
-use Rattle.class_table.specs.Stored.{StoredClass, IsHere, classes_of}
-use Rattle.class_table.specs.Coherent.{IsCoherent}
-use Rattle.py_node.proofs.SlotTables.{slot-at_place}
+use Rattle.class_table.proofs.Below.{ℕ, true, List, Some, Option, sym, ap, subst, ◌∙◌, slice_get, option_and_then, SlotId, SlotEntry, place_of, sort_of, Includes, is_class, lin, subclasses, base, solid, entry, slot, read_along, natives_of, lin-classes, table_keys, StoredClass, IsHere, classes_of, IsCoherent, slot-at_place}
+use Rattle.std.proofs.Common.{◌≡◌}
 use Rattle.class_table.proofs.Refreshed.{entries-at}
 
 module _ (kept : List StoredClass) (ok : IsCoherent kept) (c : ℕ) (k : StoredClass) (here : IsHere kept c k) where

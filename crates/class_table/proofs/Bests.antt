@@ -1,19 +1,6 @@
 -- The best base that is found base by base, and why there is none.
-use Rattle.std.proofs.Common.{◌≡◌, ℕ, Bool, true, false, cond, not, ◌||◌, List, [], ◌∷◌, ◌++◌, Option, Some, None, Result, Ok, Err, true≢false, refl, sym, ap, subst, ◌∙◌, append-nil, append_assoc}
-use Rattle.std.specs.Prelude.{is_some, option_and_then}
-use Rattle.std.specs.Option.{option_or}
-use Rattle.py_node.specs.declared.raised.Cause.{Cause}
-use Rattle.py_node.specs.declared.raised.Cause.TheVariants.{EmptyBases, NotBaseType, LayoutConflict}
-use Rattle.py_node.specs.declared.refs.PyTypeRef.{PyTypeRef}
-use Rattle.class_model.specs.Class.{Classes, class_at, is_class, lin, is_sub, is_along}
-use Rattle.class_model.specs.Layout.{solid, best_of}
-use Rattle.class_model.specs.Sound.{AreSound}
-use Rattle.class_model.proofs.Numbers.{some-of}
-use Rattle.class_model.proofs.Rule.{lin-member, lin-within}
-use Rattle.class_model.proofs.Solid.{solid-held, best-one_some}
-use Rattle.class_model.proofs.Best.{sub-itself, best-stays, best-moves}
-use Rattle.class_table.specs.Refused.{is_base_at, most_derived, are_apart, refused_base, refused_after, refused_layout, AreThere}
-use Rattle.class_table.specs.Inherit.{is_under, better_of, better, next_best, then_best, best_along, number_best}
+use Rattle.class_table.proofs.Below.{ℕ, Bool, true, false, cond, not, List, [], Option, Some, None, Result, Ok, Err, true≢false, refl, sym, ap, subst, ◌∙◌, append-nil, append_assoc, is_some, option_and_then, option_or, Cause, EmptyBases, NotBaseType, LayoutConflict, PyTypeRef, Classes, class_at, is_class, lin, is_sub, is_along, solid, best_of, AreSound, some-of, lin-member, lin-within, solid-held, best-one_some, sub-itself, best-stays, best-moves, is_base_at, most_derived, are_apart, refused_base, refused_after, refused_layout, AreThere, is_under, better_of, better, next_best, then_best, best_along, number_best}
+use Rattle.std.proofs.Common.{◌≡◌, ◌||◌, ◌∷◌, ◌++◌}
 
 -- a class that is not there derives from none
 pub none-derives : {K : Type 0} (t : Classes K) (c d : ℕ) → class_at t c ≡ None → is_sub t c d ≡ false

@@ -1,27 +1,6 @@
 -- The first class, in the order of numbers, that has no order under other bases while all its bases have one.
-use Rattle.std.proofs.Common.{◌≡◌, ℕ, zero, suc, ◌<◌, ◌≤◌, ◌+◌, Bool, true, false, cond, ◌&&◌, eqb, List, [], ◌∷◌, map, length, drop, ◌⊎◌, Option, Some, None, inl, inr, refl, sym, ap, subst, ◌∙◌, arith}
-use Rattle.std.specs.Prelude.{slice_get, IfSome, IfNone, leb, is_some, is_none, option_map, option_and_then}
-use Rattle.std.proofs.lemmas.Bool.{false≢true, false_from_ne_true, cases_eq, eqb-true, ne_eqb, leb-true, and_parts}
-use Rattle.std.proofs.lemmas.List.{drop_more}
-use Rattle.std.proofs.lemmas.Option.{slice_get_within, slice_get-map, get_or_from_slice_get}
-use Rattle.std.proofs.Math.ListN.{drop_of_length-le}
-use Rattle.py_node.specs.declared.raised.Cause.{Cause}
-use Rattle.py_node.specs.declared.refs.PyStrInterned.{PyStrInterned}
-use Rattle.class_model.specs.Order.{has, all_some}
-use Rattle.class_model.specs.Class.{Class, Classes, bases_of, lin}
-use Rattle.class_model.specs.Numbers.{numbers_of, ascend_from, is_ascending}
-use Rattle.class_model.specs.Change.{with_bases, is_blamed, blamed_along, order_cause, caused, failing}
-use Rattle.class_model.proofs.Lines.{all_some-some}
-use Rattle.class_table.specs.Keys.{numbers}
-use Rattle.class_table.specs.Stored.{StoredClass, class_of, classes_of}
-use Rattle.class_table.specs.Coherent.{IsCoherent}
-use Rattle.class_table.specs.declared.trial.Trial.{Trial}
-use Rattle.class_table.specs.declared.trial.Trial.TheVariants.{Line, Failed, Without}
-use Rattle.class_table.specs.declared.blame.Blame.{Blame}
-use Rattle.class_table.specs.declared.descendants.Ranked.{Ranked}
-use Rattle.class_table.specs.Descendants.{AreRanked}
-use Rattle.class_table.specs.Trial.{bases_under, cause_tried, IsTrial, HasTrial, IsToBlame}
-use Rattle.class_table.specs.Blame.{IsBlamed, IsSpared, IsBlame, AreBlame, IsReached, AreReached, AllReached}
+use Rattle.class_table.proofs.Below.{ℕ, zero, suc, Bool, true, false, cond, eqb, List, [], map, length, drop, Option, Some, None, inl, inr, refl, sym, ap, subst, ◌∙◌, arith, slice_get, IfSome, IfNone, leb, is_some, is_none, option_map, option_and_then, false≢true, false_from_ne_true, cases_eq, eqb-true, ne_eqb, leb-true, and_parts, drop_more, slice_get_within, slice_get-map, get_or_from_slice_get, drop_of_length-le, Cause, PyStrInterned, has, all_some, Class, Classes, bases_of, lin, numbers_of, ascend_from, is_ascending, with_bases, is_blamed, blamed_along, order_cause, caused, failing, all_some-some, numbers, StoredClass, class_of, classes_of, IsCoherent, Trial, Line, Failed, Without, Blame, Ranked, AreRanked, bases_under, cause_tried, IsTrial, HasTrial, IsToBlame, IsBlamed, IsSpared, IsBlame, AreBlame, IsReached, AreReached, AllReached}
+use Rattle.std.proofs.Common.{◌≡◌, ◌<◌, ◌≤◌, ◌+◌, ◌&&◌, ◌∷◌, ◌⊎◌}
 use Rattle.class_table.proofs.Trials.{kept-away, bases-now}
 use Rattle.class_table.proofs.Descended.{some-in}
 

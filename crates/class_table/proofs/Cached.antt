@@ -1,16 +1,7 @@
 -- What look-ups found, through each change of the rows.
-use Rattle.std.proofs.Common.{◌≡◌, ℕ, ◌+◌, ◌<◌, ◌≤◌, List, [], ◌∷◌, ◌++◌, Option, Some, None, Result, Ok, Err, OnOk, OnErr, length, get_or, set, inl, inr, sym, ap, subst, refl, ◌∙◌, arith}
-use Rattle.std.specs.List.{All}
-use Rattle.std.proofs.lemmas.Bool.{cases_eq}
-use Rattle.std.proofs.lemmas.List.{get_or-set_same, get_or-set_other}
-use Rattle.std.proofs.lemmas.List.Elements.{All-nil, All-push, All-set, All-weaker}
-use Rattle.py_node.specs.declared.refs.PyStrInterned.{PyStrInterned}
-use Rattle.class_model.specs.Class.{Classes}
-use Rattle.class_table.specs.declared.cache.Cache.{Cache}
-use Rattle.class_table.specs.declared.cache.Row.{Row}
-use Rattle.class_table.specs.Stored.{StoredClass}
-use Rattle.class_table.specs.Coherent.{IsCoherent}
-use Rattle.class_table.specs.Cache.{Tells, TellsIfAny, IsCached, AreEmpty}
+use Rattle.class_table.proofs.Below.{ℕ, List, [], Option, Some, None, Result, Ok, Err, OnOk, OnErr, length, get_or, set, inl, inr, sym, ap, subst, refl, ◌∙◌, arith, All, cases_eq, get_or-set_same, get_or-set_other, All-nil, All-push, All-set, All-weaker, PyStrInterned, Classes, Cache, Row, StoredClass, IsCoherent, TellsIfAny, IsCached, AreEmpty}
+use Rattle.std.proofs.Common.{◌≡◌, ◌+◌, ◌<◌, ◌≤◌, ◌∷◌, ◌++◌}
+use Rattle.class_table.specs.Cache.{Tells}
 
 none-tells : (t : Classes PyStrInterned) (version : ℕ) (r : Option Row) → r ≡ None → TellsIfAny t version r
 none-tells t version None e = tt

@@ -1,11 +1,6 @@
 -- How the chain of best bases goes on, where a best base is kept.
-use Rattle.std.proofs.Common.{◌≡◌, ℕ, true, Option, Some, None}
-use Rattle.std.specs.Prelude.{IfSome}
-use Rattle.py_node.specs.declared.refs.PyTypeRef.{PyTypeRef}
-use Rattle.class_model.specs.Class.{Classes, is_class}
-use Rattle.class_model.specs.Layout.{base}
-use Rattle.class_model.specs.Sound.{AreSound}
-use Rattle.class_model.proofs.Chain.{base-class}
+use Rattle.class_table.proofs.Below.{ℕ, true, Option, Some, None, IfSome, PyTypeRef, Classes, is_class, base, AreSound, base-class}
+use Rattle.std.proofs.Common.{◌≡◌}
 use Rattle.class_table.specs.Keys.{number_of}
 
 -- the best base is a class

@@ -1,29 +1,7 @@
 -- Own attributes of a class that are changed, and the slots that are found anew.
-use Rattle.std.proofs.Common.{◌≡◌, ℕ, zero, suc, ◌<◌, List, [], ◌∷◌, length, get_or, set, Option, Some, None, Bool, true, false, cond, inl, inr, refl, sym, ap, subst, ◌∙◌, arith}
-use Rattle.std.specs.Prelude.{slice_get, option_map, leb, is_some}
-use Rattle.std.proofs.lemmas.List.{map-set, set-get_or}
-use Rattle.std.proofs.lemmas.Option.{slice_get-map, slice_get-get_or, slice_get_within}
-use Rattle.std.proofs.lemmas.Bool.{eq-eqb, ne_eqb, and_parts}
-use Rattle.py_node.specs.declared.refs.PyStrInterned.{PyStrInterned}
-use Rattle.py_node.specs.Slots.{place_of}
-use Rattle.std.specs.List.{All}
-use Rattle.py_node.specs.declared.refs.PyObjectRef.{PyObjectRef}
-use Rattle.py_node.specs.Attributes.{value_of, without_key, is_same_name, AreNamesDistinct}
-use Rattle.class_model.specs.Order.{has}
-use Rattle.class_model.specs.Class.{Class, Classes, lin, subclasses}
-use Rattle.class_model.specs.Numbers.{numbers_of, ascend_from, is_ascending}
-use Rattle.class_model.specs.Layout.{base, solid, place_count}
-use Rattle.class_model.specs.Slot.{entries}
-use Rattle.class_model.specs.Sound.{AreSound}
-use Rattle.class_model.specs.BuiltIn.{natives_of}
-use Rattle.class_model.specs.Change.{with_changed}
-use Rattle.class_model.proofs.Numbers.{no-less}
-use Rattle.class_table.specs.Keys.{table_keys}
-use Rattle.class_table.specs.Stored.{StoredClass, class_of, classes_of}
-use Rattle.class_table.specs.Coherent.{HasLines, IsCoherent}
-use Rattle.class_table.specs.Patch.{IsNear, AreNear, IsRefreshed, settled, refreshed_one}
+use Rattle.class_table.proofs.Below.{ℕ, zero, suc, List, [], length, get_or, set, Option, Some, None, Bool, true, false, cond, inl, inr, refl, sym, ap, subst, ◌∙◌, arith, slice_get, option_map, leb, is_some, map-set, set-get_or, slice_get-map, slice_get-get_or, slice_get_within, eq-eqb, ne_eqb, and_parts, PyStrInterned, place_of, All, PyObjectRef, value_of, without_key, is_same_name, AreNamesDistinct, has, Class, Classes, lin, subclasses, numbers_of, ascend_from, is_ascending, base, solid, place_count, entries, AreSound, natives_of, with_changed, no-less, table_keys, StoredClass, class_of, classes_of, HasLines, IsCoherent, IsNear, AreNear, IsRefreshed, settled, refreshed_one, slot-at_place}
+use Rattle.std.proofs.Common.{◌≡◌, ◌<◌, ◌∷◌}
 use Rattle.class_table.proofs.Edited.{Attrs, taken-absent, TouchesOnly, edited, lin-edited, solid-edited, base-edited, sound-edited, count-edited, entries-away, entry-other, all-edited, subclasses-edited}
-use Rattle.py_node.proofs.SlotTables.{slot-at_place}
 use Rattle.class_table.proofs.Places.{get-set_cases}
 use Rattle.class_table.proofs.Refreshed.{there, entries-at, plain-refreshed, length-entries}
 

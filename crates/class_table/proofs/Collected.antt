@@ -1,18 +1,6 @@
 -- What the classes along a line have, put together one by one.
-use Rattle.std.proofs.Common.{◌≡◌, ℕ, ◌+◌, ◌<◌, Bool, List, [], ◌∷◌, ◌++◌, map, length, get_or, take, drop, Option, Some, refl, sym, ap, subst, ◌∙◌}
-use Rattle.std.specs.Prelude.{slice_get}
-use Rattle.std.specs.List.{AllZip}
-use Rattle.std.proofs.lemmas.List.{drop_more, map_more, map-append}
-use Rattle.std.proofs.lemmas.Option.{slice_get_within, get_or_from_slice_get}
-use Rattle.std.specs.Global.{Vec}
-use Rattle.py_node.specs.declared.refs.PyObjectRef.{PyObjectRef}
-use Rattle.py_node.specs.declared.refs.PyTypeRef.{PyTypeRef}
-use Rattle.py_node.specs.Attributes.{with_value}
-use Rattle.class_model.specs.Class.{Classes, class_at}
-use Rattle.class_model.specs.Collect.{with_values, attrs_of, attributes_along}
-use Rattle.mro_merge.specs.Lists.{rows}
-use Rattle.class_table.specs.Keys.{numbers}
-use Rattle.class_table.specs.Given.{AreGiven}
+use Rattle.class_table.proofs.Below.{ℕ, Bool, List, [], map, length, get_or, take, drop, Option, Some, refl, sym, ap, subst, ◌∙◌, slice_get, AllZip, drop_more, map_more, map-append, slice_get_within, get_or_from_slice_get, Vec, PyObjectRef, PyTypeRef, with_value, Classes, class_at, with_values, attrs_of, attributes_along, rows, numbers, AreGiven}
+use Rattle.std.proofs.Common.{◌≡◌, ◌+◌, ◌<◌, ◌∷◌, ◌++◌}
 
 -- the value at a place, and then those after it
 pub values-at : {K : Type 0} (same : K → K → Bool) (found attrs : List (K × PyObjectRef)) (i : ℕ) (a : K × PyObjectRef) → slice_get attrs i ≡ Some a → with_values same (with_value same found a.0 a.1) (drop (i + 1) attrs) ≡ with_values same found (drop i attrs)

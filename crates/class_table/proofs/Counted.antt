@@ -1,6 +1,6 @@
 -- How far what is counted rises.
-use Rattle.std.proofs.Common.{◌≡◌, ℕ, ◌+◌, ◌≤◌, ap, arith}
-use Rattle.class_table.specs.Steps.{Counts, RiseBy}
+use Rattle.class_table.proofs.Below.{ℕ, ap, arith, Counts, RiseBy}
+use Rattle.std.proofs.Common.{◌≡◌, ◌+◌, ◌≤◌}
 
 pub rise-none : (x : Counts) → RiseBy 0 0 x x
 rise-none x = record { merges_stay = omega arith; probes_stay = omega arith; few_merges = omega arith; few_probes = omega arith }

@@ -1,16 +1,6 @@
 -- How many places the objects of a class have: the members of the classes along its linearisation, since only solid classes have any.
-use Rattle.std.proofs.Common.{◌≡◌, ℕ, ◌+◌, ◌-◌, ◌<◌, ◌≤◌, Bool, true, false, cond, ◌||◌, List, [], ◌∷◌, ◌++◌, length, Option, Some, None, inl, inr, refl, sym, ap, ◌∙◌, arith}
-use Rattle.std.specs.Prelude.{nat_lt, option_map, option_and_then}
-use Rattle.std.proofs.lemmas.Bool.{ltb-true, ltb-false, lt-ltb}
-use Rattle.class_model.specs.Order.{Includes}
-use Rattle.class_model.specs.Class.{Class, Classes, class_at, lin}
-use Rattle.class_model.specs.Numbers.{limit}
-use Rattle.class_model.specs.Layout.{built_ins, has_members, is_solid, layout_along, member_count, members_in, place_along, place_count}
-use Rattle.class_model.specs.Change.{with_class}
-use Rattle.class_model.proofs.Held.{Includes-equal}
-use Rattle.class_model.proofs.Numbers.{at-before, at-last, old-or-last}
-use Rattle.class_model.proofs.Rule.{lin-classes, lin-distinct}
-use Rattle.class_model.proofs.Changed.{lin-push}
+use Rattle.class_table.proofs.Below.{ℕ, Bool, true, false, cond, List, [], length, Option, Some, None, inl, inr, refl, sym, ap, ◌∙◌, arith, nat_lt, option_map, option_and_then, ltb-true, ltb-false, lt-ltb, Includes, Class, Classes, class_at, lin, limit, built_ins, has_members, is_solid, layout_along, member_count, members_in, place_along, place_count, with_class, Includes-equal, at-before, at-last, old-or-last, lin-classes, lin-distinct, lin-push}
+use Rattle.std.proofs.Common.{◌≡◌, ◌+◌, ◌-◌, ◌<◌, ◌≤◌, ◌||◌, ◌∷◌, ◌++◌}
 
 module _ {K : Type 0} where
   members-append : (t : Classes K) (xs ys : List ℕ) → members_in t (xs ++ ys) ≡ members_in t xs + members_in t ys

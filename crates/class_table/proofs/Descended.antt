@@ -1,33 +1,9 @@
 -- The class and all that derive from it are found.
-use Rattle.std.proofs.Common.{◌≡◌, ℕ, zero, suc, ◌+◌, ◌<◌, ◌≤◌, ◌⊎◌, Bool, true, false, cond, ◌||◌, eqb, List, [], ◌∷◌, ◌++◌, map, filter, length, get_or, take, Option, Some, None, inl, inr, refl, sym, ap, subst, ◌∙◌, arith}
-use Rattle.std.specs.Prelude.{slice_get, option_map, is_some, unwrap_or}
-use Rattle.std.specs.List.{sum_by, list_any, AllByRecursion, IsDistinct}
-use Rattle.std.specs.List.Sorted.{IsPermutation}
-use Rattle.std.proofs.lemmas.Bool.{false≢true, cases_eq, eq-eqb, ne_eqb}
-use Rattle.std.proofs.lemmas.List.{length-map, map_more}
-use Rattle.std.proofs.lemmas.List.Sorted.{IsPermutation-sym, Contains-permutation, sum_by-IsPermutation}
-use Rattle.std.proofs.lemmas.Option.{slice_get_within, slice_get-get_or, get_or_from_slice_get, slice_get-map}
-use Rattle.std.proofs.lemmas.List.Sums.{sum_by-cons}
-use Rattle.indexmap.specs.IndexSet.{insert_key}
-use Rattle.py_node.specs.declared.refs.PyStrInterned.{PyStrInterned}
-use Rattle.py_node.specs.declared.refs.PyTypeRef.{PyTypeRef}
-use Rattle.class_model.specs.Order.{has, Includes, Distinct, all_some}
-use Rattle.class_model.specs.Class.{Class, Classes, class_at, is_class, bases_of, lin, is_sub, is_along, subclasses}
-use Rattle.class_model.specs.Numbers.{numbers_of, is_ascending}
-use Rattle.class_model.proofs.Held.{Includes-equal, Includes-left, Includes-right, Includes-sides, Includes-filter, from_flat_map, distinct-fewer}
-use Rattle.class_model.proofs.Tests.{Decides-has}
-use Rattle.class_model.proofs.Linear.{all_some-holds}
-use Rattle.class_model.proofs.Lines.{all_some-some}
-use Rattle.class_model.proofs.Numbers.{at-held}
-use Rattle.class_model.proofs.Rule.{lin-least, lin-held, lin-inside, lin-bases, lin-within}
-use Rattle.class_table.specs.Keys.{numbers}
-use Rattle.class_table.specs.Stored.{StoredClass, class_of, number_at, classes_of}
-use Rattle.class_table.specs.Coherent.{IsCoherent}
-use Rattle.class_table.specs.Descendants.{descendants, Descends, AreDescendants, AreAdded, AreFollowed, AreMeasured, AreRanked}
-use Rattle.class_table.specs.declared.descendants.Ranked.{Ranked}
+use Rattle.class_table.proofs.Below.{ℕ, zero, suc, Bool, true, false, cond, eqb, List, [], map, filter, length, get_or, take, Option, Some, None, inl, inr, refl, sym, ap, subst, ◌∙◌, arith, slice_get, option_map, is_some, unwrap_or, sum_by, list_any, AllByRecursion, IsDistinct, IsPermutation, false≢true, cases_eq, eq-eqb, ne_eqb, length-map, map_more, IsPermutation-sym, Contains-permutation, sum_by-IsPermutation, slice_get_within, slice_get-get_or, get_or_from_slice_get, slice_get-map, sum_by-cons, insert_key, PyStrInterned, PyTypeRef, has, Includes, Distinct, all_some, Class, Classes, class_at, is_class, bases_of, lin, is_sub, is_along, subclasses, numbers_of, is_ascending, Includes-equal, Includes-left, Includes-right, Includes-sides, Includes-filter, from_flat_map, distinct-fewer, Decides-has, all_some-holds, all_some-some, at-held, lin-least, lin-held, lin-inside, lin-bases, lin-within, numbers, StoredClass, class_of, number_at, classes_of, IsCoherent, descendants, Descends, AreDescendants, AreFollowed, AreMeasured, AreRanked, Ranked, line_length, line_places}
+use Rattle.std.proofs.Common.{◌≡◌, ◌+◌, ◌<◌, ◌≤◌, ◌⊎◌, ◌||◌, ◌∷◌, ◌++◌}
+use Rattle.class_table.specs.Descendants.{AreAdded}
 use Rattle.class_table.proofs.Found.{number-get, ascends, place-class, class-here}
 use Rattle.class_table.proofs.Places.{get-push_cases}
-use Rattle.class_table.specs.Settle.{line_length, line_places}
 use Rattle.class_table.proofs.Trials.{shorter}
 use Rattle.class_table.proofs.Settles.{distinct-places}
 

@@ -1,11 +1,8 @@
 -- What the flags of a class say of the dicts of its objects.
-use Rattle.std.proofs.Common.{◌≡◌, ℕ, ◌-◌, ◌^◌, Bool, true, false, ◌||◌, refl, sym, ap, ◌∙◌, arith}
+use Rattle.class_table.proofs.Below.{ℕ, Bool, true, false, refl, sym, ap, ◌∙◌, arith, bit_and, and_or_self, and_not_bit, heap_type, heap_flags, says_so, static_flags}
+use Rattle.std.proofs.Common.{◌≡◌, ◌-◌, ◌^◌, ◌||◌}
 use Rattle.std.specs.Prelude.{◌==◌}
-use Rattle.std.specs.Int.RustNames.{bit_and}
-use Rattle.std.proofs.lemmas.Nat.{and_or_self}
-use Rattle.std.proofs.lemmas.Grind.{and_not_bit}
-use Rattle.py_node.specs.BuiltIns.{heap_type, heap_flags, has_dict as dict_flag}
-use Rattle.class_table.specs.OneBase.{says_so, static_flags}
+use Rattle.py_node.specs.BuiltIns.{has_dict as dict_flag}
 
 -- those of a class that a script makes
 pub heap-says : (dict : Bool) → says_so (heap_flags dict) ≡ dict

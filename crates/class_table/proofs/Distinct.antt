@@ -1,14 +1,7 @@
 -- No own attribute's name stands twice in a class, also when attributes are set and classes added.
-use Rattle.std.proofs.Common.{◌≡◌, ℕ, suc, Bool, true, false, cond, List, [], ◌∷◌, refl, arith}
+use Rattle.class_table.proofs.Below.{ℕ, suc, Bool, true, false, cond, List, [], refl, arith, All, AllByRecursion, IsDistinct, keys_of, All-nil, All-cons, All-append, PyObjectRef, PyStrInterned, with_value, is_same_name, AreNamesDistinct, Class, Classes, with_class, with_changed}
+use Rattle.std.proofs.Common.{◌≡◌, ◌∷◌}
 use Rattle.std.specs.Prelude.{eqb}
-use Rattle.std.specs.List.{All, AllByRecursion, IsDistinct}
-use Rattle.std.specs.Map.{keys_of}
-use Rattle.std.proofs.lemmas.List.Elements.{All-nil, All-cons, All-append}
-use Rattle.py_node.specs.declared.refs.PyObjectRef.{PyObjectRef}
-use Rattle.py_node.specs.declared.refs.PyStrInterned.{PyStrInterned}
-use Rattle.py_node.specs.Attributes.{with_value, is_same_name, AreNamesDistinct}
-use Rattle.class_model.specs.Class.{Class, Classes}
-use Rattle.class_model.specs.Change.{with_class, with_changed}
 
 abbrev Attrs : Type 0
 Attrs = List (PyStrInterned × PyObjectRef)

@@ -1,17 +1,6 @@
 -- Classes that are kept are coherent where each is, one by one.
-use Rattle.std.proofs.Common.{◌≡◌, ℕ, List, Some}
-use Rattle.std.specs.Prelude.{slice_get}
-use Rattle.std.specs.List.{All}
-use Rattle.py_node.specs.declared.refs.PyStrInterned.{PyStrInterned}
-use Rattle.py_node.specs.Attributes.{AreNamesDistinct}
-use Rattle.class_model.specs.Class.{Classes, lin, subclasses}
-use Rattle.class_model.specs.Layout.{base, solid, place_count}
-use Rattle.class_model.specs.Slot.{entries}
-use Rattle.class_model.specs.Sound.{AreSound}
-use Rattle.class_model.specs.BuiltIn.{natives_of}
-use Rattle.class_table.specs.Keys.{table_keys}
-use Rattle.class_table.specs.Stored.{StoredClass, classes_of}
-use Rattle.class_table.specs.Coherent.{IsCoherent}
+use Rattle.class_table.proofs.Below.{ℕ, List, Some, slice_get, All, PyStrInterned, AreNamesDistinct, Classes, lin, subclasses, base, solid, place_count, entries, AreSound, natives_of, table_keys, StoredClass, classes_of, IsCoherent}
+use Rattle.std.proofs.Common.{◌≡◌}
 
 -- what is kept of a class is so of these classes
 pub record IsSoOf (t : Classes PyStrInterned) (k : StoredClass) : Type 0 where

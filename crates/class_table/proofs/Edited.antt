@@ -1,29 +1,6 @@
 -- A class whose own attributes are changed, and nothing else of it: what follows of the others, and of each slot that the change does not touch.
-use Rattle.std.proofs.Common.{◌≡◌, ℕ, Bool, true, false, cond, eqb, ◌||◌, List, [], ◌∷◌, map, length, Some, None, refl, sym, ap, ◌∙◌}
-use Rattle.std.specs.Prelude.{nat_lt, option_map}
-use Rattle.std.specs.List.{All, AllByRecursion, IsDistinct}
-use Rattle.std.specs.Map.{keys_of}
-use Rattle.std.proofs.lemmas.Bool.{false≢true, eqb-true, eq-eqb}
-use Rattle.py_node.specs.declared.refs.PyObjectRef.{PyObjectRef}
-use Rattle.py_node.specs.declared.refs.PyStrInterned.{PyStrInterned}
-use Rattle.py_node.specs.declared.entry.SlotId.{SlotId}
-use Rattle.py_node.specs.Attributes.{value_of, with_value, without_key, is_same_name, AreNamesDistinct}
-use Rattle.py_node.specs.Slots.{names_of}
-use Rattle.class_model.specs.Order.{has}
-use Rattle.class_model.specs.Class.{Class, Classes, class_at, bases_of, lin, own_of, subclasses}
-use Rattle.class_model.specs.Layout.{has_members, is_solid, solid_within, solid, base, place_count, built_ins}
-use Rattle.class_model.specs.Slot.{is_one_of, is_name_of, is_heap_at, entry, entries}
-use Rattle.class_model.specs.BuiltIn.{natives_of}
-use Rattle.class_model.specs.Change.{with_changed}
-use Rattle.class_model.specs.Sound.{AreSound}
-use Rattle.class_model.proofs.Held.{Includes-equal}
-use Rattle.class_model.proofs.Tests.{Decides-has}
-use Rattle.class_model.proofs.Numbers.{at-changed, at-changed_away, length-changed}
-use Rattle.class_model.proofs.Agreed.{entry-agrees}
-use Rattle.class_model.proofs.Slots.{entries-along}
-use Rattle.class_model.proofs.Solid.{solid_within-same, base-agrees}
-use Rattle.class_model.proofs.Kept.{lin-kept, member_count-kept, sound-kept}
-use Rattle.class_table.specs.Keys.{table_keys}
+use Rattle.class_table.proofs.Below.{ℕ, Bool, true, false, cond, eqb, List, [], map, length, Some, None, refl, sym, ap, ◌∙◌, nat_lt, option_map, All, AllByRecursion, IsDistinct, keys_of, false≢true, eqb-true, eq-eqb, PyObjectRef, PyStrInterned, SlotId, value_of, with_value, without_key, is_same_name, AreNamesDistinct, names_of, has, Class, Classes, class_at, bases_of, lin, own_of, subclasses, has_members, is_solid, solid_within, solid, base, place_count, built_ins, is_one_of, is_name_of, is_heap_at, entry, entries, natives_of, with_changed, AreSound, Includes-equal, Decides-has, at-changed, at-changed_away, length-changed, entry-agrees, entries-along, solid_within-same, base-agrees, lin-kept, member_count-kept, sound-kept, table_keys}
+use Rattle.std.proofs.Common.{◌≡◌, ◌||◌, ◌∷◌}
 use Rattle.class_table.proofs.Counts.{count-agrees}
 use Rattle.class_table.proofs.Distinct.{distinct-set, all-changed}
 

@@ -1,19 +1,6 @@
 -- Classes that are kept, by their numbers.
-use Rattle.std.proofs.Common.{◌≡◌, ℕ, suc, ◌<◌, ◌≤◌, List, [], ◌∷◌, length, get_or, Option, Some, None, Ok, Err, Bool, true, false, refl, sym, ap, ◌∙◌, arith}
-use Rattle.std.specs.Prelude.{slice_get, option_map, is_some, leb, nat_lt}
-use Rattle.std.specs.List.Sorted.{IsSearchInRange, IsBinarySearchResult, IsNonDecreasingBy}
-use Rattle.std.specs.Ordering.{nat_cmp, ordering_index}
-use Rattle.std.proofs.lemmas.Cmp.{ranked}
-use Rattle.std.proofs.lemmas.Bool.{ltb-true, ltb-false, le-leb, lt-leb}
-use Rattle.std.proofs.lemmas.Bool.Decides.{nat_tests}
-use Rattle.std.proofs.lemmas.List.Sorted.{IsNonDecreasingBy-from_default}
-use Rattle.std.proofs.lemmas.List.{length-map}
-use Rattle.std.proofs.lemmas.Option.{slice_get-map, slice_get-get_or, slice_get_within, get_or_from_slice_get}
-use Rattle.py_node.specs.declared.refs.PyStrInterned.{PyStrInterned}
-use Rattle.class_model.specs.Class.{Class, class_at, is_class}
-use Rattle.class_model.specs.Numbers.{is_ascending, limit, numbers_of}
-use Rattle.class_model.proofs.Numbers.{some-of, at-place, at-number, at-from_place, limit-last, Decides-ascending}
-use Rattle.class_table.specs.Stored.{StoredClass, IsHere, class_of, number_at, classes_of}
+use Rattle.class_table.proofs.Below.{ℕ, suc, List, [], length, get_or, Option, Some, None, Ok, Err, Bool, true, false, refl, sym, ap, ◌∙◌, arith, slice_get, option_map, is_some, leb, nat_lt, IsSearchInRange, IsBinarySearchResult, IsNonDecreasingBy, nat_cmp, ordering_index, ranked, ltb-true, ltb-false, le-leb, lt-leb, nat_tests, IsNonDecreasingBy-from_default, length-map, slice_get-map, slice_get-get_or, slice_get_within, get_or_from_slice_get, PyStrInterned, Class, class_at, is_class, is_ascending, limit, numbers_of, some-of, at-place, at-number, at-from_place, limit-last, Decides-ascending, StoredClass, IsHere, class_of, number_at, classes_of}
+use Rattle.std.proofs.Common.{◌≡◌, ◌<◌, ◌≤◌, ◌∷◌}
 
 pub element : (kept : List StoredClass) (i : ℕ) → i < length kept → StoredClass
 element [] i l = absurd (omega arith)

@@ -1,13 +1,6 @@
 -- The bases of a class that is made, as the code reads them.
-use Rattle.std.proofs.Common.{◌≡◌, ℕ, zero, suc, ◌<◌, ◌≤◌, ◌-◌, true, List, [], ◌∷◌, length, get_or, take, drop, Some, refl, sym, ap, arith}
-use Rattle.py_node.specs.declared.refs.PyTypeRef.{PyTypeRef}
-use Rattle.py_node.specs.declared.refs.PyStrInterned.{PyStrInterned}
-use Rattle.class_model.specs.Class.{Classes, is_class, is_sub}
-use Rattle.class_model.specs.Layout.{solid, best_of}
-use Rattle.class_model.proofs.Solid.{best-one_some}
-use Rattle.class_table.specs.Keys.{numbers}
-use Rattle.class_table.specs.New.{IsBelow, IsBest}
-use Rattle.class_table.specs.Refused.{AreThere}
+use Rattle.class_table.proofs.Below.{ℕ, zero, suc, true, List, [], length, get_or, take, drop, Some, refl, sym, ap, arith, PyTypeRef, PyStrInterned, Classes, is_class, is_sub, solid, best_of, best-one_some, numbers, IsBelow, IsBest, AreThere}
+use Rattle.std.proofs.Common.{◌≡◌, ◌<◌, ◌≤◌, ◌-◌, ◌∷◌}
 
 -- where there is a best base, there are bases
 pub below-best : (t : Classes PyStrInterned) (n : ℕ) (bs : List ℕ) (b : ℕ) → AreThere t bs → best_of t bs ≡ Some b → IsBelow t n bs

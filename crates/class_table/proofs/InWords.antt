@@ -1,26 +1,9 @@
 -- The causes for which a class is refused, as they are defined and in words.
-use Rattle.std.proofs.Common.{◌≡◌, ℕ, zero, suc, ◌<◌, Bool, true, false, cond, List, [], ◌∷◌, ◌++◌, map, length, take, Option, Some, None, Result, Ok, Err, ◌⊎◌, inl, inr, refl, sym, ap, ◌∙◌, arith, append-nil, append_assoc}
-use Rattle.std.specs.Prelude.{◌↔◌, is_some, slice_get, option_and_then}
-use Rattle.std.specs.Option.{option_or}
-use Rattle.std.proofs.lemmas.Bool.{false_from_ne_true}
-use Rattle.py_node.specs.declared.raised.Cause.{Cause}
-use Rattle.py_node.specs.declared.raised.Cause.TheVariants.{EmptyBases, NotBaseType, LayoutConflict, DuplicateBase, LocalPrecedence, MroConflict}
-use Rattle.class_model.specs.Order.{is_distinct, least_order, all_some, Includes, Distinct, IsOrder}
-use Rattle.class_model.specs.Class.{Classes, class_at, lin}
-use Rattle.class_model.specs.Numbers.{limit}
-use Rattle.class_model.specs.Layout.{solid}
-use Rattle.class_model.specs.Change.{breaks_precedence, order_cause}
-use Rattle.class_model.proofs.Tests.{Decides-distinct}
-use Rattle.class_model.proofs.Arranged.{least_order-order, least_order-none}
-use Rattle.class_model.proofs.Rule.{all_some-map}
-use Rattle.class_model.proofs.Lines.{all_some-some, lines-below}
-use Rattle.class_model.proofs.Failing.{breaks-to, breaks-from}
-use Rattle.class_model.proofs.OneBase.{least_order-no_base}
-use Rattle.mro_merge.proofs.Precedence.{broken-none}
-use Rattle.class_table.specs.declared.fault.ClassFault.{ClassFault}
-use Rattle.class_table.specs.declared.fault.ClassFault.TheVariants.{Refused, RefusedAt, OutOfMemory}
-use Rattle.class_table.specs.Refused.{refusal, WithMemory, IsEarly, is_base_at, most_derived, are_apart, refused_base, refused_after, refused_layout, refused_lines, refused_order, refused_bases}
-use Rattle.class_table.specs.Causes.{Fits, AllFit, LacksBase, HasLayoutConflict, HasDuplicate, AreLined, BreaksOrder, HasNoLine, AreTold}
+use Rattle.class_table.proofs.Below.{ℕ, zero, suc, Bool, true, false, cond, List, [], map, length, take, Option, Some, None, Result, Ok, Err, inl, inr, refl, sym, ap, ◌∙◌, arith, append-nil, append_assoc, is_some, slice_get, option_and_then, option_or, false_from_ne_true, Cause, EmptyBases, NotBaseType, LayoutConflict, DuplicateBase, LocalPrecedence, MroConflict, is_distinct, least_order, all_some, Includes, Distinct, IsOrder, Classes, class_at, lin, limit, solid, breaks_precedence, order_cause, Decides-distinct, least_order-order, least_order-none, all_some-map, all_some-some, lines-below, breaks-to, breaks-from, least_order-no_base, ClassFault, Refused, RefusedAt, refusal, WithMemory, IsEarly, is_base_at, most_derived, are_apart, refused_base, refused_after, refused_layout, refused_lines, refused_order, refused_bases, Fits, AllFit, LacksBase, HasLayoutConflict, HasDuplicate, AreLined, BreaksOrder, HasNoLine, AreTold}
+use Rattle.std.proofs.Common.{◌≡◌, ◌<◌, ◌∷◌, ◌++◌, ◌⊎◌}
+use Rattle.std.specs.Prelude.{◌↔◌}
+use Rattle.class_table.proofs.MroMerge.Precedence.{broken-none}
+use Rattle.class_table.specs.declared.fault.ClassFault.TheVariants.{OutOfMemory}
 use Rattle.class_table.proofs.Orders.{lines-of}
 
 abbrev by_tests : Bool → Bool → Option Cause

@@ -1,25 +1,8 @@
 -- The layout of a class is that of its solid class, and that of its best base with the class itself, if it is solid. Bases that pass every test keep each layout.
-use Rattle.std.proofs.Common.{◌≡◌, ℕ, zero, suc, Bool, true, false, cond, not, eqb, inl, inr, List, [], ◌∷◌, ◌++◌, length, Option, Some, None, refl, sym, ap, ◌∙◌}
-use Rattle.std.specs.Prelude.{is_some, option_map, option_and_then}
-use Rattle.std.proofs.lemmas.Bool.{cases_eq, false≢true}
+use Rattle.class_table.proofs.Below.{ℕ, zero, suc, Bool, true, false, cond, not, eqb, inl, inr, List, [], length, Option, Some, None, refl, sym, ap, ◌∙◌, is_some, option_map, option_and_then, cases_eq, false≢true, linear, Includes, Distinct, Subsequence, Classes, is_class, bases_of, lin, is_along, with_bases, is_empty, is_solid, solid, best_of, base, layout_along, layout, AreSound, Includes-equal, Subsequence-holds, Decides-has, linear-made, linear-zero, all_some-has, some-of, lin-begins, lin-bases, lin-distinct, lin-from, lin-least, lin-member, lin-within, keeps-members, top, best-along, first_best-held, solid-held, AreThere, refused_rebase, bound}
+use Rattle.std.proofs.Common.{◌≡◌, ◌∷◌, ◌++◌}
 use Rattle.std.proofs.lemmas.List.{append-nil}
-use Rattle.class_model.specs.Order.{linear, Includes, Distinct, Subsequence}
-use Rattle.class_model.specs.Class.{Classes, is_class, bases_of, lin, is_along}
-use Rattle.class_model.specs.Change.{with_bases}
-use Rattle.class_model.specs.Layout.{is_empty, is_solid, solid, best_of, base, layout_along, layout}
-use Rattle.class_model.specs.Sound.{AreSound}
-use Rattle.class_model.proofs.Held.{Includes-equal, Subsequence-holds}
-use Rattle.class_model.proofs.Tests.{Decides-has}
-use Rattle.class_model.proofs.Linear.{linear-made, linear-zero, all_some-has}
-use Rattle.class_model.proofs.Numbers.{some-of}
-use Rattle.class_model.proofs.Rule.{lin-begins, lin-bases, lin-distinct, lin-from, lin-least, lin-member, lin-within}
-use Rattle.class_model.proofs.Lines.{keeps-members}
-use Rattle.class_model.proofs.Layouts.{top, best-along}
-use Rattle.class_model.proofs.Solid.{first_best-held, solid-held}
-use Rattle.class_table.specs.Refused.{AreThere}
-use Rattle.class_table.specs.Rebase.{refused_rebase}
 use Rattle.class_table.proofs.Rebased.{own-base, past-head, classes-kept}
-use Rattle.class_model.proofs.Solid.{bound}
 use Rattle.class_table.proofs.Rebases.{held-some, came, solid-kept}
 use Rattle.class_table.proofs.Passed.{facts, sound-passed, order-passed, base-away_passed, base-here_passed}
 

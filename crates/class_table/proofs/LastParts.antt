@@ -1,10 +1,6 @@
 -- The part of a name past its last dot is what the definition finds.
-use Rattle.std.proofs.Common.{◌≡◌, ℕ, zero, suc, ◌<◌, ◌≤◌, inl, inr, true, cond, eqb, [], ◌∷◌, length, drop, refl, sym, ap, ◌∙◌, arith}
-use Rattle.std.specs.Prelude.{slice_index_or}
-use Rattle.std.proofs.lemmas.Bool.Decides.{Decides-eqb, eqb_tells}
-use Rattle.py_node.specs.Tree.{Text}
-use Rattle.class_model.specs.Name.{dot, part_from, last_part}
-use Rattle.class_table.specs.Name.{IsLastPart}
+use Rattle.class_table.proofs.Below.{ℕ, zero, suc, inl, inr, true, cond, eqb, [], length, drop, refl, sym, ap, ◌∙◌, arith, slice_index_or, Decides-eqb, eqb_tells, Text, dot, part_from, last_part, IsLastPart}
+use Rattle.std.proofs.Common.{◌≡◌, ◌<◌, ◌≤◌, ◌∷◌}
 
 -- past the last dot the part stays
 no-dot : (part x : Text) → ((i : ℕ) → i < length x → slice_index_or x i 0 ≡ dot → ⊥) → part_from part x ≡ part

@@ -1,3 +1,5 @@
+pub mod Lemmas
+pub mod Below
 pub mod Slots
 pub mod Places
 pub mod Found
@@ -42,3 +44,5 @@ pub mod LastParts
 pub mod Cached
 pub mod Lined
 pub mod Written
+pub mod MroMerge
+pub mod ClassLog

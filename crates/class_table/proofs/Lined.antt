@@ -1,20 +1,7 @@
 -- Linearisations in one array, and classes with their linearisations.
-use Rattle.std.proofs.Common.{◌≡◌, ℕ, zero, suc, true, ◌+◌, ◌<◌, ◌≤◌, List, [], ◌∷◌, ◌++◌, Some, Result, Ok, Err, OnOk, OnErr, inl, inr, map, length, get_or, set, take, drop, refl, sym, ap, subst, ◌∙◌, arith}
-use Rattle.std.specs.Prelude.{slice_get}
-use Rattle.std.specs.List.{All}
-use Rattle.std.proofs.lemmas.List.{drop-append-le, take-append-le, drop_at, take_all, length-drop, length-append, length-set, length-map, map_push}
-use Rattle.std.proofs.lemmas.List.Elements.{All-head, All-tail, All-weaker, All-push}
-use Rattle.py_node.specs.declared.refs.PyTypeRef.{PyTypeRef}
-use Rattle.class_table.specs.Keys.{numbers}
-use Rattle.class_table.specs.Stored.{StoredClass, class_of, number_at, classes_of}
-use Rattle.std.proofs.lemmas.Bool.{cases_eq}
-use Rattle.std.proofs.lemmas.Option.{slice_get_within}
-use Rattle.class_model.specs.Order.{Includes, Distinct}
-use Rattle.class_model.specs.Numbers.{is_ascending}
-use Rattle.class_table.specs.Renewed.{AreSwapped}
-use Rattle.class_table.specs.Lines.{part_of, IsWithin, with_line, with_lines, AreLinesOf, AreLinesTo}
-use Rattle.class_table.specs.declared.lines.Part.{Part}
-use Rattle.class_table.specs.declared.renew.Renewed.{Renewed}
+use Rattle.class_table.proofs.Below.{ℕ, zero, suc, true, List, [], Some, Result, Ok, Err, OnOk, OnErr, inl, inr, map, length, get_or, set, take, drop, refl, sym, ap, subst, ◌∙◌, arith, slice_get, All, drop-append-le, take-append-le, drop_at, take_all, length-drop, length-append, length-set, length-map, map_push, All-head, All-tail, All-weaker, All-push, PyTypeRef, numbers, StoredClass, class_of, number_at, classes_of, cases_eq, slice_get_within, Includes, Distinct, is_ascending, AreSwapped, part_of, IsWithin, with_line, with_lines, AreLinesTo, Part, Renewed}
+use Rattle.std.proofs.Common.{◌≡◌, ◌+◌, ◌<◌, ◌≤◌, ◌∷◌, ◌++◌}
+use Rattle.class_table.specs.Lines.{AreLinesOf}
 use Rattle.class_table.proofs.Found.{element}
 use Rattle.class_table.proofs.Places.{get-set_cases}
 use Rattle.class_table.proofs.Swapped.{distinct-at}

@@ -1,12 +1,6 @@
 -- The direct subclasses of a class where one class has other bases: those of now, with that class in its place or without it.
-use Rattle.std.proofs.Common.{◌≡◌, ℕ, suc, ◌<◌, ◌≤◌, Bool, true, false, cond, eqb, List, [], ◌∷◌, ◌++◌, filter, Some, refl, sym, ap, ◌∙◌, append_assoc, arith}
-use Rattle.std.specs.Prelude.{slice_get, leb, nat_lt, is_some}
-use Rattle.std.proofs.lemmas.Bool.{false≢true, eqb-true, leb-true, lt-ltb, le-ltb, and_parts}
-use Rattle.class_model.specs.Order.{has}
-use Rattle.class_model.specs.Class.{class_at, is_class, subclasses}
-use Rattle.class_model.specs.Numbers.{numbers_of, ascend_from, is_ascending}
-use Rattle.class_model.specs.Change.{with_bases}
-use Rattle.class_table.specs.Stored.{StoredClass, class_of, classes_of}
+use Rattle.class_table.proofs.Below.{ℕ, suc, Bool, true, false, cond, eqb, List, [], filter, Some, refl, sym, ap, ◌∙◌, append_assoc, arith, slice_get, leb, nat_lt, is_some, false≢true, eqb-true, leb-true, lt-ltb, le-ltb, and_parts, has, class_at, is_class, subclasses, numbers_of, ascend_from, is_ascending, with_bases, StoredClass, class_of, classes_of}
+use Rattle.std.proofs.Common.{◌≡◌, ◌<◌, ◌≤◌, ◌∷◌, ◌++◌}
 use Rattle.class_table.proofs.Blames.{under, under-past, under-is}
 
 -- the classes that are there past a number are greater

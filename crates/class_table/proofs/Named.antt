@@ -1,28 +1,6 @@
 -- A class that gets another name: all that is kept stays so.
-use Rattle.std.proofs.Common.{◌≡◌, ℕ, ◌<◌, true, false, cond, eqb, ◌||◌, List, [], ◌∷◌, map, length, get_or, set, inl, inr, refl, sym, ap, subst, ◌∙◌}
-use Rattle.std.specs.Prelude.{nat_lt, option_map}
-use Rattle.std.specs.List.{All}
-use Rattle.std.proofs.lemmas.List.{map-set}
-use Rattle.std.proofs.lemmas.Option.{slice_get-map}
-use Rattle.py_node.specs.declared.refs.PyStrInterned.{PyStrInterned}
-use Rattle.py_node.specs.declared.entry.SlotId.{SlotId}
-use Rattle.py_node.specs.Attributes.{AreNamesDistinct}
-use Rattle.py_node.specs.Slots.{all_slots}
-use Rattle.py_node.specs.Tree.{Text}
-use Rattle.class_model.specs.Order.{has}
-use Rattle.class_model.specs.Class.{Class, Classes, bases_of, lin, own_of, subclasses}
-use Rattle.class_model.specs.Layout.{has_members, is_solid, solid_within, solid, base, built_ins}
-use Rattle.class_model.specs.Slot.{is_name_of, is_heap_at, entry, entries}
-use Rattle.class_model.specs.BuiltIn.{natives_of}
-use Rattle.class_model.specs.Change.{with_class_name}
-use Rattle.class_model.specs.Sound.{AreSound}
-use Rattle.class_model.proofs.Numbers.{at-changed, length-changed}
-use Rattle.class_model.proofs.Agreed.{entry-agrees}
-use Rattle.class_model.proofs.Solid.{solid_within-same, base-agrees}
-use Rattle.class_model.proofs.Kept.{lin-kept, member_count-kept, sound-kept}
-use Rattle.class_table.specs.Keys.{table_keys}
-use Rattle.class_table.specs.Stored.{StoredClass, class_of, classes_of}
-use Rattle.class_table.specs.Coherent.{IsCoherent}
+use Rattle.class_table.proofs.Below.{ℕ, true, false, cond, eqb, List, [], map, length, get_or, set, inl, inr, refl, sym, ap, subst, ◌∙◌, nat_lt, option_map, All, map-set, slice_get-map, PyStrInterned, SlotId, AreNamesDistinct, all_slots, Text, has, Class, Classes, bases_of, lin, own_of, subclasses, has_members, is_solid, solid_within, solid, base, built_ins, is_name_of, is_heap_at, entry, entries, natives_of, with_class_name, AreSound, at-changed, length-changed, entry-agrees, solid_within-same, base-agrees, lin-kept, member_count-kept, sound-kept, table_keys, StoredClass, class_of, classes_of, IsCoherent}
+use Rattle.std.proofs.Common.{◌≡◌, ◌<◌, ◌||◌, ◌∷◌}
 use Rattle.class_table.proofs.Counts.{count-agrees}
 use Rattle.class_table.proofs.Distinct.{all-changed}
 use Rattle.class_table.proofs.Places.{get-set_cases}

@@ -1,14 +1,7 @@
 -- A class that is noted in each of its bases.
-use Rattle.std.proofs.Common.{◌≡◌, ℕ, zero, suc, true, false, cond, ◌||◌, List, [], ◌∷◌, ◌++◌, get_or, set, ◌<◌, Option, Some, None, inl, inr, refl, sym, ap, ◌∙◌, arith}
-use Rattle.std.specs.Prelude.{slice_get, option_map}
-use Rattle.std.proofs.lemmas.Bool.{eq-eqb, ne_eqb, cases_eq, cases_lt, false_from_ne_true}
+use Rattle.class_table.proofs.Below.{ℕ, zero, suc, true, false, cond, List, [], get_or, set, Option, Some, None, inl, inr, refl, sym, ap, ◌∙◌, arith, slice_get, option_map, eq-eqb, ne_eqb, cases_eq, cases_lt, false_from_ne_true, slice_get-map, get_or_from_slice_get, has, Distinct, is_ascending, Decides-has, StoredClass, class_of, number_at, classes_of, noted}
+use Rattle.std.proofs.Common.{◌≡◌, ◌||◌, ◌∷◌, ◌++◌, ◌<◌}
 use Rattle.std.proofs.lemmas.List.{append-nil}
-use Rattle.std.proofs.lemmas.Option.{slice_get-map, get_or_from_slice_get}
-use Rattle.class_model.specs.Order.{has, Distinct}
-use Rattle.class_model.specs.Numbers.{is_ascending}
-use Rattle.class_model.proofs.Tests.{Decides-has}
-use Rattle.class_table.specs.Stored.{StoredClass, class_of, number_at, classes_of}
-use Rattle.class_table.specs.Made.{noted}
 use Rattle.class_table.proofs.Found.{number-get, ascends}
 
 pub plain-noted : (bs : List ℕ) (n : ℕ) (kept : List StoredClass) → classes_of (noted bs n kept) ≡ classes_of kept

@@ -1,29 +1,11 @@
 -- What follows a new class in its linearisation, by the merge of its bases' linearisations, and why there is nothing.
-use Rattle.std.proofs.Common.{◌≡◌, ℕ, ◌≤◌, true, cond, List, [], ◌∷◌, map, Option, Some, None, Result, Ok, Err, refl, sym, ap, ◌∙◌, arith}
-use Rattle.std.specs.Prelude.{◌↔◌, IfOk, IfErr, is_some, option_and_then}
-use Rattle.std.specs.Global.{Vec}
-use Rattle.std.proofs.lemmas.Bool.{false_from_ne_true}
-use Rattle.py_node.specs.declared.raised.Cause.{Cause}
+use Rattle.class_table.proofs.Below.{ℕ, true, cond, List, [], map, Option, Some, None, Result, Ok, Err, refl, sym, ap, ◌∙◌, arith, IfOk, IfErr, is_some, option_and_then, Vec, false_from_ne_true, Cause, PyTypeRef, is_distinct, least_order, all_some, Distinct, Classes, lin, limit, order_cause, Decides-distinct, least_order-order, lin-begins, lin-distinct, all_some-some, subsequence-distinct, lines-below, MroFault, AreLinesOf, IsApart, IsFirstRepeat, IsBrokenPrecedence, IsOrderConflict, IsRest, HasNoOrder, OnRefusal, Tells, numbers, refusal, WithMemory, refused_lines, refused_order, Follows, fault_of, ClassFault}
+use Rattle.std.proofs.Common.{◌≡◌, ◌≤◌, ◌∷◌}
+use Rattle.std.specs.Prelude.{◌↔◌}
 use Rattle.py_node.specs.declared.raised.Cause.TheVariants as causes
-use Rattle.py_node.specs.declared.refs.PyTypeRef.{PyTypeRef}
-use Rattle.class_model.specs.Order.{is_distinct, least_order, all_some, Distinct}
-use Rattle.class_model.specs.Class.{Classes, lin}
-use Rattle.class_model.specs.Numbers.{limit}
-use Rattle.class_model.specs.Change.{order_cause}
-use Rattle.class_model.proofs.Tests.{Decides-distinct}
-use Rattle.class_model.proofs.Arranged.{least_order-order}
-use Rattle.class_model.proofs.Rule.{lin-begins, lin-distinct}
-use Rattle.class_model.proofs.Lines.{all_some-some, subsequence-distinct, lines-below}
-use Rattle.mro_merge.specs.declared.fault.MroFault.{MroFault}
-use Rattle.mro_merge.specs.declared.fault.MroFault.TheVariants as merge
-use Rattle.mro_merge.specs.Faults as faults
-use Rattle.mro_merge.specs.Merge.{AreLinesOf, IsApart, IsFirstRepeat, IsBrokenPrecedence, IsOrderConflict, IsRest, HasNoOrder}
-use Rattle.mro_merge.specs.Faults.{OnRefusal, Tells}
-use Rattle.mro_merge.proofs.Repeats.{repeat-differs}
-use Rattle.class_table.specs.Keys.{numbers}
-use Rattle.class_table.specs.Refused.{refusal, WithMemory, refused_lines, refused_order}
-use Rattle.class_table.specs.Inherit.{Follows, fault_of}
-use Rattle.class_table.specs.declared.fault.ClassFault.{ClassFault}
+use Rattle.class_table.specs.declared.mro_merge.fault.MroFault.TheVariants as merge
+use Rattle.class_table.specs.MroMerge.Faults as faults
+use Rattle.class_table.proofs.MroMerge.Repeats.{repeat-differs}
 
 -- what is answered, by what the merge answers
 abbrev pub answer_of : Result (Vec PyTypeRef) MroFault → Result (Vec PyTypeRef) ClassFault

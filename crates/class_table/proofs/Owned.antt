@@ -1,22 +1,8 @@
 -- The own attributes of the built-in classes: the classes stay there, and how far the numbers of the objects go.
-use Rattle.std.proofs.Common.{◌≡◌, ℕ, zero, suc, ◌+◌, ◌*◌, ◌<◌, ◌≤◌, true, List, [], ◌∷◌, length, fold, refl, sym, ap, ◌∙◌, subst, arith, take, get_or, ltb}
-use Rattle.std.proofs.lemmas.Bool.{ltb-true}
-use Rattle.py_node.specs.declared.attr.Attr.{Attr}
+use Rattle.class_table.proofs.Below.{ℕ, zero, suc, true, List, [], length, fold, refl, sym, ap, ◌∙◌, subst, arith, take, get_or, ltb, ltb-true, Attr, BuiltIn, Object, Known, PyObjectRef, PyStrInterned, with_value, is_same_name, all_built_ins, number_of, own_attrs, Class, Classes, with_class_attr, built_in_classes, is_class-kept, Numbered, HasBuiltIns, number_past, value_number, with_own, with_all_own}
+use Rattle.std.proofs.Common.{◌≡◌, ◌+◌, ◌*◌, ◌<◌, ◌≤◌, ◌∷◌}
 use Rattle.py_node.specs.declared.attr.Attr.TheVariants as attr
-use Rattle.py_node.specs.declared.built_in.BuiltIn.{BuiltIn}
-use Rattle.py_node.specs.declared.built_in.BuiltIn.TheVariants.{Object}
-use Rattle.py_node.specs.declared.known.Known.{Known}
-use Rattle.py_node.specs.declared.refs.PyObjectRef.{PyObjectRef}
-use Rattle.py_node.specs.declared.refs.PyStrInterned.{PyStrInterned}
-use Rattle.py_node.specs.Attributes.{with_value, is_same_name}
-use Rattle.py_node.specs.BuiltIns.{place_of, all_built_ins}
-use Rattle.py_node.specs.Known.{number_of}
-use Rattle.py_node.specs.OwnAttrs.{own_attrs}
-use Rattle.class_model.specs.Class.{Class, Classes}
-use Rattle.class_model.specs.Change.{with_class_attr}
-use Rattle.class_model.specs.Start.{built_in_classes}
-use Rattle.class_model.proofs.Kept.{is_class-kept}
-use Rattle.class_table.specs.Start.{Numbered, HasBuiltIns, number_past, value_number, with_own, with_all_own}
+use Rattle.py_node.specs.BuiltIns.{place_of}
 use Rattle.class_table.proofs.StartParts.{Row}
 
 past-near : (n : ℕ) (a : Attr) → number_past n a ≤ suc n

@@ -1,26 +1,8 @@
 -- Bases for a class that pass every test.
-use Rattle.std.proofs.Common.{◌≡◌, ℕ, Bool, true, false, cond, ◌||◌, not, List, [], ◌∷◌, Option, Some, None, inl, inr, refl, sym, ap, ◌∙◌}
-use Rattle.std.specs.Prelude.{is_some, option_map, option_and_then}
-use Rattle.std.specs.Option.{option_or}
-use Rattle.std.proofs.lemmas.Bool.{eqb-true, ne_eqb}
-use Rattle.py_node.specs.declared.raised.Cause.{Cause}
-use Rattle.py_node.specs.declared.raised.Cause.TheVariants.{EmptyBases, InheritanceCycle, LayoutDiffers, DuplicateBase}
-use Rattle.class_model.specs.Order.{is_distinct, Distinct, Includes}
-use Rattle.class_model.specs.Class.{Classes, is_class, bases_of, lin, is_sub}
-use Rattle.class_model.specs.Failing.{NoneIsBlamed}
-use Rattle.class_model.specs.Change.{with_bases, failing}
-use Rattle.class_model.specs.Layout.{is_empty, solid, best_of, base}
-use Rattle.class_model.specs.Dict.{keeps_dict}
-use Rattle.class_model.specs.Sound.{AreSound}
-use Rattle.class_model.proofs.Numbers.{some-of}
-use Rattle.class_model.proofs.Tests.{Decides-distinct}
-use Rattle.class_model.proofs.Solid.{first_best-held}
-use Rattle.class_model.proofs.Failing.{failing-none}
-use Rattle.class_table.specs.Refused.{refused_attr, refused_layout, most_derived, AreThere}
-use Rattle.class_table.specs.Rebase.{any_derives, is_same, unless, refused_change, refused_rebase, Refusal}
+use Rattle.class_table.proofs.Below.{ℕ, Bool, true, false, cond, not, List, [], Option, Some, None, inl, inr, refl, sym, ap, ◌∙◌, is_some, option_map, option_and_then, option_or, eqb-true, ne_eqb, Cause, EmptyBases, InheritanceCycle, LayoutDiffers, DuplicateBase, is_distinct, Distinct, Includes, Classes, is_class, bases_of, lin, is_sub, NoneIsBlamed, with_bases, failing, is_empty, solid, best_of, base, keeps_dict, AreSound, some-of, Decides-distinct, first_best-held, failing-none, refused_attr, refused_layout, most_derived, AreThere, any_derives, is_same, unless, refused_change, refused_rebase, Refusal, bound}
+use Rattle.std.proofs.Common.{◌≡◌, ◌||◌, ◌∷◌}
 use Rattle.class_table.proofs.Bests.{best-there}
 use Rattle.class_table.proofs.Rebased.{not-root, order-rebased}
-use Rattle.class_model.proofs.Solid.{bound}
 use Rattle.class_table.proofs.Rebases.{sound-rebased, solid-rebased, base-away, base-here}
 
 pub either-none : {A : Type 0} (a b : Option A) → option_or a b ≡ None → (a ≡ None) × (b ≡ None)

@@ -1,7 +1,6 @@
 -- Elements by their place, after a write.
-use Rattle.std.proofs.Common.{◌≡◌, ℕ, zero, suc, ◌+◌, ◌<◌, ◌≤◌, Bool, true, false, ltb, List, [], ◌∷◌, ◌++◌, length, set, map, Some, ◌⊎◌, inl, inr, refl, ap, sym, ◌∙◌, arith}
-use Rattle.std.specs.Prelude.{slice_get}
-use Rattle.std.proofs.lemmas.Bool.{ltb-true, ltb-false, lt-ltb, le-ltb}
+use Rattle.class_table.proofs.Below.{ℕ, zero, suc, Bool, true, false, ltb, List, [], length, set, map, Some, inl, inr, refl, ap, sym, ◌∙◌, arith, slice_get, ltb-true, ltb-false, lt-ltb, le-ltb}
+use Rattle.std.proofs.Common.{◌≡◌, ◌+◌, ◌<◌, ◌≤◌, ◌∷◌, ◌++◌, ◌⊎◌}
 
 pub get-set_cases : {A : Type 0} (xs : List A) (b : ℕ) (y : A) (i : ℕ) (z : A) → slice_get (set xs b y) i ≡ Some z → ((i ≡ b) × (y ≡ z)) ⊎ ((i ≡ b → ⊥) × (slice_get xs i ≡ Some z))
 get-set_cases [] b y i z e = cc

@@ -1,30 +1,8 @@
 -- What the special names find along a linearisation is what stands in the slots.
 use denote.Enum.Bare.{same_true}
-use Rattle.py_node.specs.contracts.entry.SlotId.{the_type}
-use Rattle.std.proofs.Common.{◌≡◌, ℕ, zero, suc, ◌+◌, ◌<◌, ◌≤◌, Bool, true, false, cond, ◌&&◌, ◌||◌, not, eqb, ltb, map, List, [], ◌∷◌, length, get_or, drop, Option, Some, None, refl, sym, ap, ◌∙◌, add-zero, arith}
-use Rattle.std.specs.Prelude.{slice_index_or, option_and_then}
-use Rattle.std.proofs.lemmas.Bool.{eqb-true, eq-eqb, ltb-true, false≢true}
-use Rattle.std.proofs.lemmas.List.{drop_more}
-use Rattle.std.proofs.lemmas.Option.{slice_get-get_or}
-use Rattle.std.proofs.Math.ListN.{drop_of_length-le}
-use Rattle.py_node.specs.declared.refs.PyObjectRef.{PyObjectRef}
-use Rattle.py_node.specs.declared.refs.PyStrInterned.{PyStrInterned}
-use Rattle.py_node.specs.declared.entry.SlotId.{SlotId}
-use Rattle.py_node.specs.declared.entry.SlotId.TheVariants.{Hash, New}
-use Rattle.py_node.specs.declared.entry.SlotEntry.{SlotEntry}
-use Rattle.py_node.specs.declared.known.Known.{Known}
+use Rattle.class_table.proofs.Below.{the_type, ℕ, zero, suc, Bool, true, false, cond, not, eqb, ltb, map, List, [], length, get_or, drop, Option, Some, None, refl, sym, ap, ◌∙◌, add-zero, arith, slice_index_or, option_and_then, eqb-true, eq-eqb, ltb-true, false≢true, drop_more, slice_get-get_or, drop_of_length-le, PyObjectRef, PyStrInterned, SlotId, Hash, New, SlotEntry, Known, is_same_name, number_of, is_slot, slot_names, place_of, names_of, Class, Classes, class_at, own_of, or_else, along, is_one_of, is_name_of, wrapped, heap_entry, table_keys, Includes, lin-held, StoredClass, classes_of, HasLines, is_called, value_found, value_at, slot_by, AreFound}
+use Rattle.std.proofs.Common.{◌≡◌, ◌+◌, ◌<◌, ◌≤◌, ◌&&◌, ◌||◌, ◌∷◌}
 use Rattle.py_node.specs.declared.known.Known.TheVariants as known
-use Rattle.py_node.specs.Attributes.{is_same_name}
-use Rattle.py_node.specs.Known.{number_of}
-use Rattle.py_node.specs.Slots.{is_slot, slot_names, place_of, names_of}
-use Rattle.class_model.specs.Class.{Class, Classes, class_at, own_of, or_else, along}
-use Rattle.class_model.specs.Slot.{is_one_of, is_name_of, wrapped, heap_entry}
-use Rattle.class_table.specs.Keys.{table_keys}
-use Rattle.class_model.specs.Order.{Includes}
-use Rattle.class_model.proofs.Rule.{lin-held}
-use Rattle.class_table.specs.Stored.{StoredClass, classes_of}
-use Rattle.class_table.specs.Coherent.{HasLines}
-use Rattle.class_table.specs.Probe.{is_called, value_found, value_at, slot_by, AreFound}
 use Rattle.class_table.proofs.Along.{value_of-first, value_of-found, value_of-only, value_of-no, wrapped-alike}
 use Rattle.class_table.proofs.Slots.{below_all, names-below, names-hash}
 

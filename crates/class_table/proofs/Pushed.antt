@@ -1,36 +1,8 @@
 -- One more class, with what follows from its bases.
-use Rattle.std.proofs.Common.{◌≡◌, ℕ, ◌+◌, ◌<◌, ◌≤◌, List, [], ◌∷◌, ◌++◌, length, get_or, set, Option, Some, None, IfSome, true, cond, not, ◌||◌, inl, inr, refl, sym, ap, subst, ◌∙◌, arith}
-use Rattle.std.specs.Prelude.{slice_get, option_and_then, is_some, nat_lt, eqb}
-use Rattle.std.proofs.lemmas.List.{length-append, length-map, map-append, get_or_push}
-use Rattle.std.proofs.lemmas.Bool.{eq-eqb, ne_eqb, lt-ltb}
-use Rattle.std.specs.List.{All}
-use Rattle.py_node.specs.declared.refs.PyStrInterned.{PyStrInterned}
-use Rattle.py_node.specs.declared.refs.PyTypeRef.{PyTypeRef}
-use Rattle.py_node.specs.Attributes.{AreNamesDistinct}
-use Rattle.class_model.specs.Order.{has, Includes, Distinct}
-use Rattle.class_model.specs.Class.{Class, Classes, is_class, lin, subclasses}
-use Rattle.class_model.specs.Numbers.{is_ascending, limit}
-use Rattle.class_model.specs.Layout.{built_ins, is_empty, base, solid, best_of, members_in, place_count}
-use Rattle.class_model.specs.Slot.{entries}
-use Rattle.class_model.specs.Dict.{says_dict, has_its_dict}
-use Rattle.class_model.specs.Sound.{AreSound}
-use Rattle.class_model.specs.BuiltIn.{natives_of}
-use Rattle.class_model.specs.Change.{with_class}
-use Rattle.class_model.proofs.Numbers.{below-limit, ascending-push}
-use Rattle.class_model.proofs.Changed.{lin-push, bases_of-last}
-use Rattle.class_model.proofs.Subclasses.{subclasses-push, subclasses-new}
-use Rattle.class_model.proofs.Slots.{entries-push}
-use Rattle.class_model.proofs.Solid.{first_best-held, base-push, solid-push}
-use Rattle.class_model.proofs.Made.{solid-made, sound-made}
-use Rattle.class_model.proofs.Lines.{bases-distinct, lin-value, best-value, solid-value}
-use Rattle.class_table.specs.Keys.{table_keys, number_of}
-use Rattle.class_table.specs.Stored.{StoredClass, class_of, classes_of}
-use Rattle.class_table.specs.Coherent.{HasLines, IsCoherent}
-use Rattle.class_table.specs.Patch.{settled}
-use Rattle.class_table.specs.New.{IsBelow, IsBest}
-use Rattle.class_table.specs.Made.{IsFresh, noted}
-use Rattle.class_table.specs.Refused.{AreThere}
-use Rattle.class_table.specs.Inherit.{Follows}
+use Rattle.class_table.proofs.Below.{ℕ, List, [], length, get_or, set, Option, Some, None, true, cond, not, inl, inr, refl, sym, ap, subst, ◌∙◌, arith, slice_get, option_and_then, is_some, nat_lt, length-append, length-map, map-append, get_or_push, eq-eqb, ne_eqb, lt-ltb, All, PyStrInterned, PyTypeRef, AreNamesDistinct, has, Includes, Distinct, Class, Classes, is_class, lin, subclasses, is_ascending, limit, built_ins, is_empty, base, solid, best_of, members_in, place_count, entries, says_dict, has_its_dict, AreSound, natives_of, with_class, below-limit, ascending-push, lin-push, bases_of-last, subclasses-push, subclasses-new, entries-push, first_best-held, base-push, solid-push, solid-made, sound-made, bases-distinct, lin-value, best-value, solid-value, table_keys, StoredClass, class_of, classes_of, HasLines, IsCoherent, settled, IsBelow, IsBest, IsFresh, noted, AreThere, Follows}
+use Rattle.std.proofs.Common.{◌≡◌, ◌+◌, ◌<◌, ◌≤◌, ◌∷◌, ◌++◌, IfSome, ◌||◌}
+use Rattle.std.specs.Prelude.{eqb}
+use Rattle.class_table.specs.Keys.{number_of}
 use Rattle.class_table.proofs.Distinct.{all-added}
 use Rattle.class_table.proofs.Counts.{count-push, count-last}
 use Rattle.class_table.proofs.Places.{get-set_cases, get-push_cases}

@@ -1,21 +1,6 @@
 -- Linearisations where one class has other bases, none of which derives from it.
-use Rattle.std.proofs.Common.{◌≡◌, ℕ, zero, suc, true, false, eqb, List, [], ◌∷◌, map, length, Option, Some, None, inl, inr, refl, sym, ap, subst, ◌∙◌}
-use Rattle.std.specs.Prelude.{is_some, option_map}
-use Rattle.std.proofs.lemmas.Bool.{false_from_ne_true, false≢true, cases_eq, eqb-true}
-use Rattle.class_model.specs.Order.{has, linear, least_order, all_some, Includes, Subsequence, BeginsWith, IsOrder}
-use Rattle.class_model.specs.Class.{Class, Classes, class_at, is_class, bases_of, lin, is_along, is_sub}
-use Rattle.class_model.specs.Change.{with_bases}
-use Rattle.class_model.specs.Failing.{NoneIsBlamed}
-use Rattle.class_model.specs.Layout.{is_empty}
-use Rattle.class_model.specs.Sound.{AreSound}
-use Rattle.class_model.proofs.Held.{Includes-equal, Subsequence-holds}
-use Rattle.class_model.proofs.Tests.{Decides-has}
-use Rattle.class_model.proofs.Arranged.{least_order-order, least_order-none}
-use Rattle.class_model.proofs.Linear.{linear-made, linear-zero, all_some-has}
-use Rattle.class_model.proofs.Numbers.{some-of, at-changed, at-changed_away, at-changed_here}
-use Rattle.class_model.proofs.Rule.{lin-from, lin-along, lin-begins, lin-held, lin-member, lin-bases, lin-distinct, all_some-map}
-use Rattle.class_model.proofs.Changed.{lin-by}
-use Rattle.class_model.proofs.Lines.{keeps-members}
+use Rattle.class_table.proofs.Below.{ℕ, zero, suc, true, false, eqb, List, [], map, length, Option, Some, None, inl, inr, refl, sym, ap, subst, ◌∙◌, is_some, option_map, false_from_ne_true, false≢true, cases_eq, eqb-true, has, linear, least_order, all_some, Includes, Subsequence, BeginsWith, IsOrder, Class, Classes, class_at, is_class, bases_of, lin, is_along, is_sub, with_bases, NoneIsBlamed, is_empty, AreSound, Includes-equal, Subsequence-holds, Decides-has, least_order-order, least_order-none, linear-made, linear-zero, all_some-has, some-of, at-changed, at-changed_away, at-changed_here, lin-from, lin-along, lin-begins, lin-held, lin-member, lin-bases, lin-distinct, all_some-map, lin-by, keeps-members}
+use Rattle.std.proofs.Common.{◌≡◌, ◌∷◌}
 
 -- a class is none of its own bases, and none of its bases derives from it
 module _ {K : Type 0} (t : Classes K) where

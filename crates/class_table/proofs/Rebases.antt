@@ -1,25 +1,6 @@
 -- The solid classes along a linearisation, where one class has other bases whose best has the solid class of the best base of before.
-use Rattle.std.proofs.Common.{◌≡◌, ℕ, zero, suc, ◌⊎◌, Bool, true, false, cond, not, ◌||◌, ◌&&◌, List, [], ◌∷◌, map, length, Option, Some, None, inl, inr, refl, sym, ap, subst, ◌∙◌}
-use Rattle.std.specs.Prelude.{nat_lt, is_some, option_map, option_and_then}
-use Rattle.std.proofs.lemmas.Bool.{cases_eq, ne_eqb}
-use Rattle.class_model.specs.Order.{has, linear, all_some, Includes}
-use Rattle.class_model.specs.Class.{Class, Classes, class_at, is_class, bases_of, lin, is_along, is_sub}
-use Rattle.class_model.specs.Change.{with_bases}
-use Rattle.class_model.specs.Failing.{NoneIsBlamed}
-use Rattle.class_model.specs.Layout.{built_ins, is_empty, has_members, is_solid, derives_all, first_best, solid_within, solid, best_of, base}
-use Rattle.class_model.specs.Numbers.{ascend_from}
-use Rattle.class_model.specs.Dict.{has_dict, dict_with, keeps_dict}
-use Rattle.class_model.specs.Sound.{AreSound}
-use Rattle.class_model.proofs.Held.{Includes-equal, from_flat_map}
-use Rattle.class_model.proofs.Tests.{Decides-has}
-use Rattle.class_model.proofs.Linear.{linear-made, linear-zero, all_some-has, all_some-holds}
-use Rattle.class_model.proofs.Numbers.{some-of, numbers-changed, at-changed}
-use Rattle.class_model.proofs.Agreed.{bind-agrees}
-use Rattle.class_model.proofs.Rule.{lin-from, lin-held, lin-member, lin-inside, lin-bases, lin-classes, lin-within, lin-least}
-use Rattle.class_model.proofs.Lines.{all_some-some}
-use Rattle.class_model.proofs.Dict.{alike-same, dicts-rebased}
-use Rattle.class_model.proofs.Layouts.{top, best-along, solid-rule}
-use Rattle.class_model.proofs.Solid.{first_best-held, solid-held, solid-solid}
+use Rattle.class_table.proofs.Below.{ℕ, zero, suc, Bool, true, false, cond, not, List, [], map, length, Option, Some, None, inl, inr, refl, sym, ap, subst, ◌∙◌, nat_lt, is_some, option_map, option_and_then, cases_eq, ne_eqb, has, linear, all_some, Includes, Class, Classes, class_at, is_class, bases_of, lin, is_along, is_sub, with_bases, NoneIsBlamed, built_ins, is_empty, has_members, is_solid, derives_all, first_best, solid_within, solid, best_of, base, ascend_from, has_dict, dict_with, keeps_dict, AreSound, Includes-equal, from_flat_map, Decides-has, linear-made, linear-zero, all_some-has, all_some-holds, some-of, numbers-changed, at-changed, bind-agrees, lin-from, lin-held, lin-member, lin-inside, lin-bases, lin-classes, lin-within, lin-least, all_some-some, alike-same, dicts-rebased, top, best-along, solid-rule, first_best-held, solid-held, solid-solid}
+use Rattle.std.proofs.Common.{◌≡◌, ◌⊎◌, ◌||◌, ◌&&◌, ◌∷◌}
 use Rattle.class_table.proofs.Rebased.{base-apart, bases-away, bases-here, classes-kept, line-base, order-rebased, not-root}
 
 maps-same : (f g : ℕ → Option ℕ) (ws : List ℕ) → ((b : ℕ) → Includes ws b → f b ≡ g b) → map f ws ≡ map g ws

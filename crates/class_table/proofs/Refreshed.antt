@@ -1,25 +1,7 @@
 -- Slots found anew, one after another, and one class after another.
-use Rattle.std.proofs.Common.{◌≡◌, ℕ, zero, suc, ◌+◌, ◌<◌, ◌≤◌, List, [], ◌∷◌, ◌++◌, length, get_or, set, take, drop, map, Option, Some, Bool, true, false, cond, ltb, eqb, inl, inr, refl, sym, ap, subst, ◌∙◌, arith, append_assoc, append-nil}
-use Rattle.std.specs.Prelude.{slice_get, option_map}
-use Rattle.std.proofs.lemmas.List.{drop_more, take_more, set_at, set-set, set-get_or, get_or-set_same, length-take-le, length-map, get_or-map, map-set, take_all}
-use Rattle.std.proofs.Math.ListN.{drop_of_length-le}
-use Rattle.std.proofs.lemmas.Option.{slice_get-map, slice_get-get_or, get_or_from_slice_get, slice_get_within}
-use Rattle.std.proofs.lemmas.Bool.{lt-ltb, le-ltb, eqb-true, eqb-false}
-use Rattle.py_node.specs.declared.refs.PyStrInterned.{PyStrInterned}
-use Rattle.py_node.specs.declared.entry.SlotEntry.{SlotEntry}
-use Rattle.py_node.specs.declared.entry.SlotId.{SlotId}
-use Rattle.py_node.specs.Slots.{place_of, all_slots}
-use Rattle.class_model.specs.Order.{has}
-use Rattle.class_model.specs.Class.{Class, Classes, lin}
-use Rattle.class_model.specs.Numbers.{is_ascending}
-use Rattle.class_model.specs.Slot.{is_name_of, entry, entries}
-use Rattle.class_model.specs.BuiltIn.{natives_of}
-use Rattle.class_table.specs.Keys.{table_keys}
-use Rattle.class_table.specs.Stored.{StoredClass, class_of, classes_of}
-use Rattle.class_table.specs.Coherent.{HasLines}
-use Rattle.class_table.specs.Patch.{NoneNamed, IsNear, AreNear, IsRefreshed, settled, refreshed_one}
+use Rattle.class_table.proofs.Below.{ℕ, zero, suc, List, [], length, get_or, set, take, drop, map, Option, Some, Bool, true, false, cond, ltb, eqb, inl, inr, refl, sym, ap, subst, ◌∙◌, arith, append_assoc, append-nil, slice_get, option_map, drop_more, take_more, set_at, set-set, set-get_or, get_or-set_same, length-take-le, length-map, get_or-map, map-set, take_all, drop_of_length-le, slice_get-map, slice_get-get_or, get_or_from_slice_get, slice_get_within, lt-ltb, le-ltb, eqb-true, eqb-false, PyStrInterned, SlotEntry, SlotId, place_of, all_slots, has, Class, Classes, lin, is_ascending, is_name_of, entry, entries, natives_of, table_keys, StoredClass, class_of, classes_of, HasLines, NoneNamed, IsNear, AreNear, IsRefreshed, settled, refreshed_one, Add}
+use Rattle.std.proofs.Common.{◌≡◌, ◌+◌, ◌<◌, ◌≤◌, ◌∷◌, ◌++◌}
 use Rattle.class_table.proofs.Slots.{place-at, length-all, no_special}
-use Rattle.py_node.specs.declared.entry.SlotId.TheVariants.{Add}
 use Rattle.class_table.proofs.Places.{get-set_cases, get-set_at, get-set_away, below-apart, same-maps, same-lists}
 
 -- a write that does not change the class itself

@@ -1,16 +1,6 @@
 -- Why a class is refused, under other keys.
-use Rattle.std.proofs.Common.{◌≡◌, ℕ, cond, not, ◌||◌, List, [], ◌∷◌, ◌++◌, map, Option, Some, None, refl, ap, ◌∙◌}
-use Rattle.std.specs.Prelude.{is_some, option_and_then}
-use Rattle.std.specs.Option.{option_or}
-use Rattle.py_node.specs.declared.raised.Cause.TheVariants.{NotBaseType, LayoutConflict, DuplicateBase}
-use Rattle.class_model.specs.Order.{is_distinct, least_order, all_some}
-use Rattle.class_model.specs.Class.{Classes, class_at, lin, is_sub, renamed}
-use Rattle.class_model.specs.Numbers.{past_all, limit}
-use Rattle.class_model.specs.Layout.{solid, best_of}
-use Rattle.class_model.specs.Change.{order_cause}
-use Rattle.class_model.proofs.Agreed.{bind-agrees}
-use Rattle.class_model.proofs.Renamed.{at-renamed, numbers-renamed, lin-renamed, is_sub-renamed, solid-renamed, best_of-renamed}
-use Rattle.class_table.specs.Refused.{is_base_at, most_derived, are_apart, refused_base, refused_after, refused_layout, refused_lines, refused_order, refused_bases}
+use Rattle.class_table.proofs.Below.{ℕ, cond, not, List, [], map, Option, Some, None, refl, ap, ◌∙◌, is_some, option_and_then, option_or, NotBaseType, LayoutConflict, DuplicateBase, is_distinct, least_order, all_some, Classes, class_at, lin, is_sub, renamed, past_all, limit, solid, best_of, order_cause, bind-agrees, at-renamed, numbers-renamed, lin-renamed, is_sub-renamed, solid-renamed, best_of-renamed, is_base_at, most_derived, are_apart, refused_base, refused_after, refused_layout, refused_lines, refused_order, refused_bases}
+use Rattle.std.proofs.Common.{◌≡◌, ◌||◌, ◌∷◌, ◌++◌}
 
 module _ {K L : Type 0} (f : K → L) (t : Classes K) where
   apart-alike : (o p : Option ℕ) → are_apart (renamed f t) o p ≡ are_apart t o p

@@ -1,44 +1,12 @@
 -- The table after other bases of a class and all that follows from them were put in place.
-use Rattle.std.proofs.Common.{◌≡◌, ℕ, ◌<◌, ◌≤◌, Bool, true, false, cond, List, [], ◌∷◌, ◌⊎◌, zero, suc, map, length, get_or, set, Some, None, inl, inr, refl, sym, ap, subst, ◌∙◌, arith}
-use Rattle.std.specs.Prelude.{slice_get, option_map}
-use Rattle.std.specs.List.{All}
-use Rattle.std.proofs.lemmas.Bool.{false≢true}
-use Rattle.std.proofs.lemmas.List.{map-set, length-set}
-use Rattle.std.proofs.lemmas.Option.{slice_get-map, slice_get-get_or, slice_get_within}
-use Rattle.py_node.specs.declared.refs.PyStrInterned.{PyStrInterned}
-use Rattle.py_node.specs.Attributes.{AreNamesDistinct}
-use Rattle.class_model.specs.Order.{has, Includes}
-use Rattle.class_model.specs.Class.{Class, Classes, is_class, lin, subclasses}
-use Rattle.class_model.specs.Numbers.{is_ascending}
-use Rattle.class_model.specs.Layout.{base, solid, place_count}
-use Rattle.class_model.specs.Slot.{entries}
-use Rattle.class_model.specs.BuiltIn.{natives_of}
-use Rattle.class_model.specs.Change.{with_bases}
-use Rattle.class_model.specs.Sound.{AreSound}
-use Rattle.class_model.proofs.Held.{Includes-equal, Includes-map}
-use Rattle.class_model.proofs.Tests.{Decides-has}
-use Rattle.class_model.proofs.Numbers.{at-changed_away}
-use Rattle.class_model.proofs.Slots.{entries-along}
-use Rattle.class_table.specs.Keys.{table_keys}
-use Rattle.class_table.specs.Stored.{StoredClass, class_of, number_at, classes_of}
-use Rattle.class_table.specs.Coherent.{HasLines, IsCoherent}
-use Rattle.class_table.specs.Patch.{settled}
-use Rattle.class_table.specs.Descendants.{descendants, AreRanked}
-use Rattle.class_table.specs.Settle.{line_length, line_places, line_kept, places_kept, is_ranked, AreSettled}
-use Rattle.class_table.specs.declared.descendants.Ranked.{Ranked}
-use Rattle.class_table.specs.Refused.{AreThere}
-use Rattle.class_table.specs.Rebase.{refused_rebase}
-use Rattle.class_table.specs.declared.renew.Renewed.{Renewed}
-use Rattle.class_table.specs.Affected.{AreAffected}
-use Rattle.class_table.specs.Renewed.{AreRenewed, AreSwapped, with_renewed}
+use Rattle.class_table.proofs.Below.{ℕ, Bool, true, false, cond, List, [], zero, suc, map, length, get_or, set, Some, None, inl, inr, refl, sym, ap, subst, ◌∙◌, arith, slice_get, option_map, All, false≢true, map-set, length-set, slice_get-map, slice_get-get_or, slice_get_within, PyStrInterned, AreNamesDistinct, has, Includes, Class, Classes, is_class, lin, subclasses, is_ascending, base, solid, place_count, entries, natives_of, with_bases, AreSound, Includes-equal, Includes-map, Decides-has, at-changed_away, entries-along, table_keys, StoredClass, class_of, number_at, classes_of, HasLines, IsCoherent, settled, descendants, AreRanked, line_length, line_places, line_kept, places_kept, is_ranked, AreSettled, Ranked, AreThere, refused_rebase, Renewed, AreAffected, AreRenewed, AreSwapped, with_renewed, lin-held, member_count-kept}
+use Rattle.std.proofs.Common.{◌≡◌, ◌<◌, ◌≤◌, ◌∷◌, ◌⊎◌}
 use Rattle.class_table.proofs.Found.{number-within, read-number}
 use Rattle.class_table.proofs.Distinct.{all-changed}
 use Rattle.class_table.proofs.Places.{get-set_cases, same-maps}
 use Rattle.class_table.proofs.Refreshed.{there, length-entries}
 use Rattle.class_table.proofs.Changed.{with_changed-set}
 use Rattle.class_table.proofs.Each.{IsSoOf, coherent-each}
-use Rattle.class_model.proofs.Rule.{lin-held}
-use Rattle.class_model.proofs.Kept.{member_count-kept}
 use Rattle.class_table.proofs.Counts.{count-agrees}
 use Rattle.class_table.proofs.Trials.{is-there, kept-away}
 use Rattle.class_table.proofs.Listed.{unlisted}

@@ -1,31 +1,9 @@
 -- Those classes that are gone through get the slots of their definitions, and all others stay.
-use Rattle.std.proofs.Common.{◌≡◌, ℕ, zero, suc, ◌+◌, ◌<◌, ◌≤◌, Bool, true, false, cond, ◌&&◌, ◌||◌, not, eqb, List, [], ◌∷◌, ◌++◌, map, length, get_or, set, take, Option, Some, inl, inr, refl, sym, ap, ◌∙◌, arith}
-use Rattle.std.specs.Prelude.{slice_get, option_and_then}
-use Rattle.std.proofs.lemmas.Bool.{cases_eq, eq-eqb, ne_eqb, false≢true}
-use Rattle.std.proofs.lemmas.List.{length-set, map-append, take_more}
-use Rattle.std.proofs.lemmas.List.Sums.{sum_by_push}
-use Rattle.std.proofs.lemmas.Option.{slice_get_within}
-use Rattle.class_model.specs.Numbers.{is_ascending}
-use Rattle.class_model.specs.Slot.{is_by_itself, heap_entry, given_entry, entry, entries}
-use Rattle.class_model.specs.BuiltIn.{natives_of}
-use Rattle.class_table.specs.Keys.{table_keys}
-use Rattle.class_table.specs.Coherent.{HasLines}
-use Rattle.py_node.specs.declared.entry.SlotEntry.{SlotEntry}
-use Rattle.py_node.specs.declared.entry.SlotId.{SlotId}
-use Rattle.py_node.specs.Slots.{place_of, all_slots, sort_of}
-use Rattle.std.proofs.lemmas.List.{get_or-set_same}
+use Rattle.class_table.proofs.Below.{ℕ, zero, suc, Bool, true, false, cond, not, eqb, List, [], map, length, get_or, set, take, Option, Some, inl, inr, refl, sym, ap, ◌∙◌, arith, slice_get, option_and_then, cases_eq, eq-eqb, ne_eqb, false≢true, length-set, map-append, take_more, sum_by_push, slice_get_within, is_ascending, is_by_itself, heap_entry, given_entry, entry, entries, natives_of, table_keys, HasLines, SlotEntry, SlotId, place_of, all_slots, sort_of, get_or-set_same, slot-at_place, PyStrInterned, has, Includes, Distinct, without, Classes, is_heap, lin, Includes-equal, Includes-without, StoredClass, IsHere, class_of, classes_of, settled, line_length, line_places, line_kept, places_kept, is_ranked, is_heap_ranked, is_static_ranked, AreHeapsSettled, AreSettled, Ranked}
+use Rattle.std.proofs.Common.{◌≡◌, ◌+◌, ◌<◌, ◌≤◌, ◌&&◌, ◌||◌, ◌∷◌, ◌++◌}
 use Rattle.class_table.proofs.Along.{entry-given, given-heap}
 use Rattle.class_table.proofs.Found.{place-class}
-use Rattle.py_node.proofs.SlotTables.{slot-at_place}
 use Rattle.class_table.proofs.Refreshed.{part, part-then, plain-set, length-entries, entries-at}
-use Rattle.py_node.specs.declared.refs.PyStrInterned.{PyStrInterned}
-use Rattle.class_model.specs.Order.{has, Includes, Distinct, without}
-use Rattle.class_model.specs.Class.{Classes, is_heap, lin}
-use Rattle.class_model.proofs.Held.{Includes-equal, Includes-without}
-use Rattle.class_table.specs.Stored.{StoredClass, IsHere, class_of, classes_of}
-use Rattle.class_table.specs.Patch.{settled}
-use Rattle.class_table.specs.Settle.{line_length, line_places, line_kept, places_kept, is_ranked, is_heap_ranked, is_static_ranked, AreHeapsSettled, AreSettled}
-use Rattle.class_table.specs.declared.descendants.Ranked.{Ranked}
 use Rattle.class_table.proofs.Places.{get-set_cases, get-set_at, get-set_away, same-maps}
 
 some-in : {A : Type 0} (xs : List A) (i : ℕ) → i < length xs → (x : A) × (slice_get xs i ≡ Some x)

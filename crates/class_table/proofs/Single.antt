@@ -1,16 +1,6 @@
 -- At most one base is never refused for its order.
-use Rattle.std.proofs.Common.{◌≡◌, ℕ, ◌≤◌, true, List, [], ◌∷◌, length, Option, Some, None, cond, refl, ap, ◌∙◌, arith}
-use Rattle.std.specs.Prelude.{is_some, option_and_then}
-use Rattle.std.specs.Option.{option_or}
-use Rattle.py_node.specs.declared.raised.Cause.TheVariants.{NotBaseType}
-use Rattle.class_model.specs.Order.{all_some}
-use Rattle.class_model.specs.Class.{Class, Classes, class_at, is_class, lin}
-use Rattle.class_model.specs.Numbers.{limit}
-use Rattle.class_model.specs.Change.{order_cause}
-use Rattle.class_model.proofs.Numbers.{some-of}
-use Rattle.class_model.proofs.OneBase.{least_order-one_base, least_order-no_base}
-use Rattle.class_model.proofs.Rule.{lin-begins, lin-distinct, lin-below}
-use Rattle.class_table.specs.Refused.{is_base_at, refused_lines, refused_order, refused_bases, AreThere}
+use Rattle.class_table.proofs.Below.{ℕ, true, List, [], length, Option, Some, None, cond, refl, ap, ◌∙◌, arith, is_some, option_and_then, option_or, NotBaseType, all_some, Class, Classes, class_at, is_class, lin, limit, order_cause, some-of, least_order-one_base, least_order-no_base, lin-begins, lin-distinct, lin-below, is_base_at, refused_lines, refused_order, refused_bases, AreThere}
+use Rattle.std.proofs.Common.{◌≡◌, ◌≤◌, ◌∷◌}
 
 module _ {K : Type 0} (t : Classes K) where
   pub one-ordered : (bs : List ℕ) → ((c : ℕ) → is_class t c ≡ true → is_some (lin t c) ≡ true) → length bs ≤ 1 → AreThere t bs → refused_order t bs ≡ None

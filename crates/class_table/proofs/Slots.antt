@@ -1,19 +1,8 @@
 -- Facts about each slot, by cases.
-use Rattle.std.proofs.Common.{◌≡◌, ℕ, zero, suc, ◌+◌, ◌≤◌, Bool, true, false, ◌&&◌, ◌||◌, map, eqb, ltb, List, [], ◌∷◌, length, Some, refl, ap, ◌∙◌, sym, arith}
-use Rattle.std.specs.Prelude.{slice_get, slice_index_or}
+use Rattle.class_table.proofs.Below.{ℕ, zero, suc, Bool, true, false, map, eqb, ltb, List, [], length, Some, refl, ap, ◌∙◌, sym, arith, slice_get, slice_index_or, the_type, SlotId, Hash, Known, number_of, eqb-true, ltb-true, ne_eqb, is_slot, slot_names, place_of, names_of, all_slots, is_one_of, is_name_of, PyStrInterned, is_same_name, table_keys}
+use Rattle.std.proofs.Common.{◌≡◌, ◌+◌, ◌≤◌, ◌&&◌, ◌||◌, ◌∷◌}
 use denote.Enum.Bare.{same_true}
-use Rattle.py_node.specs.contracts.entry.SlotId.{the_type}
-use Rattle.py_node.specs.declared.entry.SlotId.{SlotId}
-use Rattle.py_node.specs.declared.entry.SlotId.TheVariants.{Hash}
-use Rattle.py_node.specs.declared.known.Known.{Known}
 use Rattle.py_node.specs.declared.known.Known.TheVariants as known
-use Rattle.py_node.specs.Known.{number_of}
-use Rattle.std.proofs.lemmas.Bool.{eqb-true, ltb-true, ne_eqb}
-use Rattle.py_node.specs.Slots.{is_slot, slot_names, place_of, names_of, all_slots}
-use Rattle.class_model.specs.Slot.{is_one_of, is_name_of}
-use Rattle.py_node.specs.declared.refs.PyStrInterned.{PyStrInterned}
-use Rattle.py_node.specs.Attributes.{is_same_name}
-use Rattle.class_table.specs.Keys.{table_keys}
 
 both : (a b : Bool) → (a && b) ≡ true → (a ≡ true) × (b ≡ true)
 both true b e = (refl, e)

@@ -1,18 +1,7 @@
 -- What the special names find, class by class.
-use Rattle.std.proofs.Common.{◌≡◌, ℕ, zero, suc, ◌+◌, ◌<◌, ◌≤◌, ◌⊎◌, Bool, true, false, cond, List, [], ◌∷◌, ◌++◌, length, get_or, take, set, replicate, Option, Some, None, inl, inr, refl, sym, ap, ◌∙◌, add-one, arith}
-use Rattle.std.specs.Prelude.{slice_get, option_and_then}
-use Rattle.std.proofs.lemmas.Bool.{cases_eq, cases_lt, eq-eqb, ne_eqb}
-use Rattle.std.proofs.lemmas.Option.{slice_get-get_or}
-use Rattle.std.proofs.lemmas.List.{map-append, length-set}
-use Rattle.py_node.specs.declared.refs.PyObjectRef.{PyObjectRef}
-use Rattle.py_node.specs.declared.refs.PyStrInterned.{PyStrInterned}
-use Rattle.py_node.specs.declared.refs.PyTypeRef.{PyTypeRef}
+use Rattle.class_table.proofs.Below.{ℕ, zero, suc, Bool, true, false, cond, List, [], length, get_or, take, set, replicate, Option, Some, None, inl, inr, refl, sym, ap, ◌∙◌, add-one, arith, slice_get, option_and_then, cases_eq, cases_lt, eq-eqb, ne_eqb, slice_get-get_or, map-append, length-set, PyObjectRef, PyStrInterned, PyTypeRef, value_of, number_of, Classes, class_at, own_of, or_else, along, numbers, is_called, value_found, value_at, AreAdded, AreFound}
+use Rattle.std.proofs.Common.{◌≡◌, ◌+◌, ◌<◌, ◌≤◌, ◌⊎◌, ◌∷◌, ◌++◌}
 use Rattle.py_node.specs.declared.known.Known.TheVariants as known
-use Rattle.py_node.specs.Attributes.{value_of}
-use Rattle.py_node.specs.Known.{number_of}
-use Rattle.class_model.specs.Class.{Classes, class_at, own_of, or_else, along}
-use Rattle.class_table.specs.Keys.{numbers}
-use Rattle.class_table.specs.Probe.{is_called, value_found, value_at, AreAdded, AreFound}
 use Rattle.class_table.proofs.Places.{get-set_at, get-set_away}
 use Rattle.class_table.proofs.Probed.{new-number}
 

@@ -1,23 +1,8 @@
 -- The parts of a new machine's world: loops over the built-in classes and the names that are known.
-use Rattle.std.proofs.Common.{◌≡◌, ℕ, zero, suc, ◌+◌, ◌<◌, ◌≤◌, Bool, true, false, cond, List, [], ◌∷◌, ◌++◌, length, Option, Some, None, refl, sym, ap, ◌∙◌, subst, arith, get_or, take, map, fold, true≢false}
-use Rattle.std.specs.Prelude.{◌&&◌, ◌||◌, not, slice_get, ltb, eqb, nat_lt, is_some}
-use Rattle.std.specs.Borrow.{Bor}
-use Rattle.std.specs.Str.{bytes_eq}
-use Rattle.std.proofs.lemmas.Bool.{ltb-true, eqb-true, eqb-false}
-use Rattle.std.proofs.lemmas.Slice.Eq.{bytes_eq-Decides}
-use Rattle.py_node.specs.declared.built_in.BuiltIn.{BuiltIn}
-use Rattle.py_node.specs.declared.built_in.BuiltIn.TheVariants.{Object}
-use Rattle.py_node.specs.declared.flags.PyTypeFlags.{PyTypeFlags}
-use Rattle.py_node.specs.BuiltIns.{place_of, base_of, flags_of, built_in_bases, built_in_flags, all_built_ins}
-use Rattle.py_node.specs.Known.{known_texts}
-use Rattle.py_node.specs.Texts.{AreDistinct}
-use Rattle.class_model.specs.Start.{bases_from, built_class}
-use Rattle.py_node.specs.declared.refs.PyStrInterned.{PyStrInterned}
-use Rattle.class_model.specs.Class.{Classes, class_at, is_class}
-use Rattle.class_model.specs.Numbers.{limit}
-use Rattle.class_model.specs.Dict.{says_dict, has_dict, any_has_dict, has_its_dict}
-use Rattle.class_table.specs.New.{IsBelow}
-use Rattle.class_table.specs.OneBase.{says_so}
+use Rattle.class_table.proofs.Below.{ℕ, zero, suc, Bool, true, false, cond, List, [], length, Option, Some, None, refl, sym, ap, ◌∙◌, subst, arith, get_or, take, map, fold, true≢false, slice_get, nat_lt, is_some, Bor, bytes_eq, ltb-true, eqb-true, eqb-false, bytes_eq-Decides, BuiltIn, Object, PyTypeFlags, base_of, flags_of, built_in_bases, built_in_flags, all_built_ins, known_texts, AreDistinct, bases_from, built_class, PyStrInterned, Classes, class_at, is_class, limit, says_dict, has_dict, any_has_dict, has_its_dict, IsBelow, says_so}
+use Rattle.std.proofs.Common.{◌≡◌, ◌+◌, ◌<◌, ◌≤◌, ◌∷◌, ◌++◌}
+use Rattle.std.specs.Prelude.{◌&&◌, ◌||◌, not, ltb, eqb}
+use Rattle.py_node.specs.BuiltIns.{place_of}
 use Rattle.class_table.proofs.Dicts.{or-no}
 
 module _ {A B : Type 0} (f : A → B) where

@@ -1,15 +1,7 @@
 -- What other bases make of some classes, put in its place.
-use Rattle.std.proofs.Common.{◌≡◌, ℕ, zero, suc, ◌+◌, ◌<◌, ◌≤◌, List, [], ◌∷◌, length, get_or, set, Some, inl, inr, refl, sym, ap, ◌∙◌, arith}
-use Rattle.std.specs.Prelude.{slice_get}
-use Rattle.std.proofs.lemmas.Bool.{cases_eq}
-use Rattle.std.proofs.lemmas.List.{length-set}
-use Rattle.std.proofs.lemmas.Option.{slice_get_within}
-use Rattle.class_model.specs.Order.{Distinct}
-use Rattle.class_model.proofs.Held.{Includes-equal}
-use Rattle.class_table.specs.Keys.{numbers, number_of}
-use Rattle.class_table.specs.Stored.{StoredClass}
-use Rattle.class_table.specs.declared.renew.Renewed.{Renewed}
-use Rattle.class_table.specs.Renewed.{with_renewed, renewed_but_line, AreSwapped}
+use Rattle.class_table.proofs.Below.{ℕ, zero, suc, List, [], length, get_or, set, Some, inl, inr, refl, sym, ap, ◌∙◌, arith, slice_get, cases_eq, length-set, slice_get_within, Distinct, Includes-equal, numbers, StoredClass, Renewed, with_renewed, renewed_but_line, AreSwapped}
+use Rattle.std.proofs.Common.{◌≡◌, ◌+◌, ◌<◌, ◌≤◌, ◌∷◌}
+use Rattle.class_table.specs.Keys.{number_of}
 use Rattle.class_table.proofs.Places.{get-set_at, get-set_away}
 use Rattle.class_table.proofs.Trials.{read-is}
 use Rattle.class_table.proofs.Descended.{Includes-at}

@@ -1,14 +1,7 @@
 -- The classes that a change of bases touches are found.
-use Rattle.std.proofs.Common.{◌≡◌, ℕ, true, List, Some, inl, inr, sym, ap, subst, ◌∙◌}
-use Rattle.std.specs.Prelude.{slice_get, option_map}
-use Rattle.std.proofs.lemmas.Option.{slice_get_within}
-use Rattle.class_model.specs.Order.{Includes, Distinct}
-use Rattle.class_model.specs.Class.{is_class}
-use Rattle.class_model.proofs.Rule.{lin-bases, lin-classes}
-use Rattle.class_table.specs.Stored.{StoredClass, IsHere, classes_of}
-use Rattle.class_table.specs.Coherent.{IsCoherent}
-use Rattle.class_table.specs.Descendants.{AreDescendants, AreAdded}
-use Rattle.class_table.specs.Affected.{AreAffected}
+use Rattle.class_table.proofs.Below.{ℕ, true, List, Some, inl, inr, sym, ap, subst, ◌∙◌, slice_get, option_map, slice_get_within, Includes, Distinct, is_class, lin-bases, lin-classes, StoredClass, IsHere, classes_of, IsCoherent, AreDescendants, AreAffected}
+use Rattle.std.proofs.Common.{◌≡◌}
+use Rattle.class_table.specs.Descendants.{AreAdded}
 use Rattle.class_table.proofs.Found.{number-within}
 use Rattle.class_table.proofs.Trials.{own-bases}
 use Rattle.class_table.proofs.Descended.{Includes-at, Includes-index, one-place}

@@ -1,29 +1,6 @@
 -- The trial of other bases, class by class.
-use Rattle.std.proofs.Common.{◌≡◌, ℕ, ◌+◌, ◌<◌, ◌≤◌, true, false, cond, List, [], ◌∷◌, map, length, get_or, eqb, Result, Ok, Err, Option, Some, None, inl, inr, refl, sym, ap, subst, ◌∙◌, arith}
-use Rattle.std.specs.Prelude.{slice_get, IfOk, is_some, option_map, option_and_then}
-use Rattle.std.proofs.lemmas.Bool.{false≢true, cases_eq, eq-eqb, ne_eqb}
-use Rattle.std.proofs.lemmas.Option.{get_or_from_slice_get, slice_get-get_or, slice_get_within}
-use Rattle.py_node.specs.declared.raised.Cause.{Cause}
-use Rattle.py_node.specs.declared.refs.PyStrInterned.{PyStrInterned}
-use Rattle.class_model.specs.Order.{has, least_order, all_some, Includes, Distinct}
-use Rattle.class_model.specs.Class.{Class, Classes, class_at, is_class, bases_of, lin, is_along}
-use Rattle.class_model.specs.Change.{with_bases, order_cause}
-use Rattle.class_model.proofs.Held.{Includes-equal, Subsequence-length}
-use Rattle.class_model.proofs.Tests.{Decides-has}
-use Rattle.class_model.proofs.Linear.{all_some-has, all_some-holds}
-use Rattle.class_model.proofs.Rule.{lin-rule, lin-begins, lin-bases, lin-member}
-use Rattle.class_model.proofs.Changed.{lin-by}
-use Rattle.class_model.proofs.Lines.{all_some-some, bases-distinct, keeps-members}
-use Rattle.mro_merge.specs.Merge.{IsApart, IsRest, HasNoOrder}
-use Rattle.class_table.specs.Stored.{StoredClass, class_of, classes_of}
-use Rattle.class_table.specs.Coherent.{IsCoherent}
-use Rattle.class_table.specs.Refused.{AreThere}
-use Rattle.class_table.specs.Rebase.{any_derives}
-use Rattle.class_table.specs.declared.trial.Trial.{Trial}
-use Rattle.class_table.specs.declared.trial.Trial.TheVariants.{Line, Failed, Without}
-use Rattle.class_table.specs.declared.descendants.Ranked.{Ranked}
-use Rattle.class_table.specs.Descendants.{AreRanked}
-use Rattle.class_table.specs.Trial.{bases_under, trial_at, line_tried, IsTrial, HasTrial, IsToBlame, IsWithout, IsKnown, AreKnown, AreTried}
+use Rattle.class_table.proofs.Below.{ℕ, true, false, cond, List, [], map, length, get_or, eqb, Result, Ok, Err, Option, Some, None, inl, inr, refl, sym, ap, subst, ◌∙◌, arith, slice_get, IfOk, is_some, option_map, option_and_then, false≢true, cases_eq, eq-eqb, ne_eqb, get_or_from_slice_get, slice_get-get_or, slice_get_within, Cause, PyStrInterned, has, least_order, all_some, Includes, Distinct, Class, Classes, class_at, is_class, bases_of, lin, is_along, with_bases, order_cause, Includes-equal, Subsequence-length, Decides-has, all_some-has, all_some-holds, lin-rule, lin-begins, lin-bases, lin-member, lin-by, all_some-some, bases-distinct, keeps-members, IsApart, IsRest, HasNoOrder, StoredClass, class_of, classes_of, IsCoherent, AreThere, any_derives, Trial, Line, Failed, Without, Ranked, AreRanked, bases_under, trial_at, line_tried, IsTrial, HasTrial, IsToBlame, IsWithout, IsKnown, AreKnown, AreTried}
+use Rattle.std.proofs.Common.{◌≡◌, ◌+◌, ◌<◌, ◌≤◌, ◌∷◌}
 use Rattle.class_table.proofs.Found.{place-class}
 use Rattle.class_table.proofs.Pushed.{each-there}
 use Rattle.class_table.proofs.Passed.{none-derives}

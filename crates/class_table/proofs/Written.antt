@@ -1,7 +1,6 @@
 -- Classes one of which was written.
-use Rattle.std.proofs.Common.{◌≡◌, ℕ, ◌<◌, List, length, set, ap, ◌∙◌, arith}
-use Rattle.std.proofs.lemmas.List.{length-set}
-use Rattle.class_table.specs.Stored.{StoredClass}
+use Rattle.class_table.proofs.Below.{ℕ, List, length, set, ap, ◌∙◌, arith, length-set, StoredClass}
+use Rattle.std.proofs.Common.{◌≡◌, ◌<◌}
 
 -- a place is still inside
 pub written-inside : (kept cur : List StoredClass) (at : ℕ) (k : StoredClass) → at < length kept → cur ≡ set kept at k → at < length cur

@@ -1,6 +1,6 @@
 -- Where other bases of a class may change what is kept of a class, but for its slots.
-use Rattle.std.specs.Prelude.{◌≡◌, ℕ, ◌<◌, true, List, Some, slice_get, length}
-use Rattle.class_model.specs.Order.{has, Includes, Distinct}
+use Rattle.class_table.specs.Below.{ℕ, true, List, Some, slice_get, length, has, Includes, Distinct}
+use Rattle.std.specs.Prelude.{◌≡◌, ◌<◌}
 use Rattle.class_table.specs.Stored.{StoredClass}
 
 -- the places of the class and of all that derive from it, of its bases of now and of those that it is to have, each once

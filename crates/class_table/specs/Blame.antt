@@ -1,6 +1,6 @@
 -- The class that is to blame where other bases leave no order.
-use Rattle.std.specs.Prelude.{◌≡◌, ℕ, ◌<◌, ◌≤◌, false, true, List, Option, Some, None, slice_get}
-use Rattle.class_model.specs.Change.{with_bases, is_blamed, caused}
+use Rattle.class_table.specs.Below.{ℕ, false, true, List, Option, Some, None, slice_get, with_bases, is_blamed, caused}
+use Rattle.std.specs.Prelude.{◌≡◌, ◌<◌, ◌≤◌}
 use Rattle.class_table.specs.Stored.{StoredClass, classes_of}
 use Rattle.class_table.specs.Trial.{bases_under}
 use Rattle.class_table.specs.declared.blame.Blame.{Blame}

@@ -1,9 +1,6 @@
 -- The answers of look-ups, kept until a class changes.
-use Rattle.std.specs.Prelude.{◌≡◌, ℕ, ◌≤◌, List, Option, Some, None}
-use Rattle.std.specs.List.{All}
-use Rattle.py_node.specs.declared.refs.PyStrInterned.{PyStrInterned}
-use Rattle.py_node.specs.Attributes.{is_same_name}
-use Rattle.class_model.specs.Class.{Classes, found}
+use Rattle.class_table.specs.Below.{ℕ, List, Option, Some, None, All, PyStrInterned, is_same_name, Classes, found}
+use Rattle.std.specs.Prelude.{◌≡◌, ◌≤◌}
 use Rattle.class_table.specs.declared.cache.Cache.{Cache}
 use Rattle.class_table.specs.declared.cache.Row.{Row}
 

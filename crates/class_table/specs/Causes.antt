@@ -1,11 +1,6 @@
 -- Why a class is refused, in words.
-use Rattle.std.specs.Prelude.{◌≡◌, ℕ, ◌<◌, ◌↔◌, true, false, List, [], map, length, take, Some, slice_get, Result}
-use Rattle.py_node.specs.declared.raised.Cause.TheVariants.{EmptyBases, NotBaseType, LayoutConflict, DuplicateBase, LocalPrecedence, MroConflict}
-use Rattle.class_model.specs.Order.{Distinct, IsOrder}
-use Rattle.class_model.specs.Class.{Classes, class_at, lin}
-use Rattle.class_model.specs.Numbers.{limit}
-use Rattle.class_model.specs.Layout.{solid}
-use Rattle.class_model.specs.Failing.{BreaksPrecedence}
+use Rattle.class_table.specs.Below.{ℕ, true, false, List, [], map, length, take, Some, slice_get, Result, EmptyBases, NotBaseType, LayoutConflict, DuplicateBase, LocalPrecedence, MroConflict, Distinct, IsOrder, Classes, class_at, lin, limit, solid, BreaksPrecedence}
+use Rattle.std.specs.Prelude.{◌≡◌, ◌<◌, ◌↔◌}
 use Rattle.class_table.specs.Refused.{refusal, WithMemory, is_base_at, most_derived, are_apart}
 use Rattle.class_table.specs.declared.fault.ClassFault.{ClassFault}
 

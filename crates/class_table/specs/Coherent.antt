@@ -1,13 +1,6 @@
 -- Everything that is kept is what its definition says, and the classes are sound.
-use Rattle.std.specs.Prelude.{◌≡◌, ℕ, true, List, Some, slice_get}
-use Rattle.std.specs.List.{All}
-use Rattle.py_node.specs.Attributes.{AreNamesDistinct}
-use Rattle.class_model.specs.Class.{lin, subclasses}
-use Rattle.class_model.specs.Numbers.{is_ascending}
-use Rattle.class_model.specs.Layout.{base, solid, place_count}
-use Rattle.class_model.specs.Slot.{entries}
-use Rattle.class_model.specs.Sound.{AreSound}
-use Rattle.class_model.specs.BuiltIn.{natives_of}
+use Rattle.class_table.specs.Below.{ℕ, true, List, Some, slice_get, All, AreNamesDistinct, lin, subclasses, is_ascending, base, solid, place_count, entries, AreSound, natives_of}
+use Rattle.std.specs.Prelude.{◌≡◌}
 use Rattle.class_table.specs.Keys.{table_keys}
 use Rattle.class_table.specs.Stored.{StoredClass, classes_of}
 

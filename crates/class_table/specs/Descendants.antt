@@ -1,9 +1,6 @@
 -- The class and all that derive from it, and where they are kept.
-use Rattle.std.specs.Prelude.{◌≡◌, ℕ, ◌<◌, ◌≤◌, true, ◌⊎◌, List, filter, length, Some, slice_get}
-use Rattle.std.specs.List.{sum_by}
-use Rattle.class_model.specs.Order.{has, Includes, Distinct}
-use Rattle.class_model.specs.Class.{Classes, is_sub}
-use Rattle.class_model.specs.Numbers.{numbers_of}
+use Rattle.class_table.specs.Below.{ℕ, true, List, filter, length, Some, slice_get, sum_by, has, Includes, Distinct, Classes, is_sub, numbers_of}
+use Rattle.std.specs.Prelude.{◌≡◌, ◌<◌, ◌≤◌, ◌⊎◌}
 use Rattle.class_table.specs.Stored.{StoredClass, number_at}
 use Rattle.class_table.specs.declared.descendants.Ranked.{Ranked}
 

@@ -1,7 +1,5 @@
 -- What a function gives for each class along a line.
-use Rattle.std.specs.Prelude.{ℕ, List, Option, Some, None}
-use Rattle.std.specs.List.{AllZip}
-use Rattle.py_node.specs.declared.refs.PyTypeRef.{PyTypeRef}
+use Rattle.class_table.specs.Below.{ℕ, List, Option, Some, None, AllZip, PyTypeRef}
 
 -- there is a line, and for each class of it, in order, one of the results that the function may have there
 abbrev pub AreGiven : {T : Type 0} → (PyTypeRef → T → Type 0) → Option (List ℕ) → List T → Type 0

@@ -1,14 +1,9 @@
 -- What is got from the bases of a class, a base at a time. No public contract names these.
-use Rattle.std.specs.Prelude.{◌≡◌, ℕ, ◌≤◌, Bool, false, cond, List, [], ◌∷◌, map, Option, Some, None, option_and_then, Result, Ok, Err}
-use Rattle.py_node.specs.declared.raised.Cause.{Cause}
+use Rattle.class_table.specs.Below.{ℕ, Bool, false, cond, List, [], map, Option, Some, None, option_and_then, Result, Ok, Err, Cause, PyTypeRef, least_order, all_some, Classes, class_at, lin, is_sub, limit, solid}
+use Rattle.std.specs.Prelude.{◌≡◌, ◌≤◌, ◌∷◌}
 use Rattle.py_node.specs.declared.raised.Cause.TheVariants as causes
-use Rattle.py_node.specs.declared.refs.PyTypeRef.{PyTypeRef}
-use Rattle.mro_merge.specs.declared.fault.MroFault.{MroFault}
-use Rattle.mro_merge.specs.declared.fault.MroFault.TheVariants as merge
-use Rattle.class_model.specs.Order.{least_order, all_some}
-use Rattle.class_model.specs.Class.{Classes, class_at, lin, is_sub}
-use Rattle.class_model.specs.Numbers.{limit}
-use Rattle.class_model.specs.Layout.{solid}
+use Rattle.class_table.specs.declared.mro_merge.fault.MroFault.{MroFault}
+use Rattle.class_table.specs.declared.mro_merge.fault.MroFault.TheVariants as merge
 use Rattle.class_table.specs.Keys.{number_of}
 use Rattle.class_table.specs.Refused.{is_base_at}
 use Rattle.class_table.specs.declared.fault.ClassFault.{ClassFault}

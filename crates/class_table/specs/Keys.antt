@@ -1,11 +1,5 @@
 -- How the table names attributes, and the numbers of classes.
-use Rattle.std.specs.Prelude.{ℕ, List, map, Option, option_map}
-use Rattle.std.specs.Global.{Vec}
-use Rattle.py_node.specs.declared.refs.PyStrInterned.{PyStrInterned}
-use Rattle.py_node.specs.declared.refs.PyTypeRef.{PyTypeRef}
-use Rattle.py_node.specs.Attributes.{is_same_name}
-use Rattle.py_node.specs.Known.{number_of as number_of_name}
-use Rattle.class_model.specs.Slot.{Keys}
+use Rattle.class_table.specs.Below.{ℕ, List, map, Option, option_map, Vec, PyStrInterned, PyTypeRef, is_same_name, number_of as number_of_name, Keys}
 
 -- the names that are known have the first numbers
 abbrev pub table_keys : Keys PyStrInterned

@@ -1,3 +1,4 @@
+pub mod Below
 pub mod Keys
 pub mod Stored
 pub mod Lines
@@ -24,3 +25,5 @@ pub mod Renewed
 pub mod Probe
 pub mod Settle
 pub mod Affected
+pub mod MroMerge
+pub mod ClassLog

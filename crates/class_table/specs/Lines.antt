@@ -1,7 +1,6 @@
 -- The linearisations of all classes, in one array, and the rest of what is kept of each.
-use Rattle.std.specs.Prelude.{◌≡◌, ℕ, ◌+◌, ◌<◌, ◌≤◌, List, [], ◌∷◌, length, take, drop, slice_get, Some}
-use Rattle.py_node.specs.declared.refs.PyTypeRef.{PyTypeRef}
-use Rattle.class_model.specs.Order.{Includes}
+use Rattle.class_table.specs.Below.{ℕ, List, [], length, take, drop, slice_get, Some, PyTypeRef, Includes}
+use Rattle.std.specs.Prelude.{◌≡◌, ◌+◌, ◌<◌, ◌≤◌, ◌∷◌}
 use Rattle.class_table.specs.Keys.{numbers}
 use Rattle.class_table.specs.Stored.{StoredClass}
 use Rattle.class_table.specs.declared.lines.Part.{Part}

@@ -1,12 +1,6 @@
 -- A class that is made.
-use Rattle.std.specs.Prelude.{◌≡◌, ℕ, cond, List, [], ◌∷◌, ◌++◌, map, length, Some}
-use Rattle.py_node.specs.declared.refs.PyStrInterned.{PyStrInterned}
-use Rattle.py_node.specs.Attributes.{AreNamesDistinct}
-use Rattle.py_node.specs.Slots.{slot_count}
-use Rattle.class_model.specs.Order.{has}
-use Rattle.class_model.specs.Class.{Class, lin}
-use Rattle.class_model.specs.Layout.{base, solid, place_count}
-use Rattle.class_model.specs.Change.{with_class}
+use Rattle.class_table.specs.Below.{ℕ, cond, List, [], map, length, Some, PyStrInterned, AreNamesDistinct, slot_count, has, Class, lin, base, solid, place_count, with_class}
+use Rattle.std.specs.Prelude.{◌≡◌, ◌∷◌, ◌++◌}
 use Rattle.class_table.specs.Stored.{StoredClass, class_of, classes_of}
 
 -- a class as it is made, before its slots are found: what is kept of it is so of the classes with this one more

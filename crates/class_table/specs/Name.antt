@@ -1,7 +1,6 @@
 -- The part of a name past its last dot.
-use Rattle.std.specs.Prelude.{◌≡◌, ℕ, suc, ◌<◌, ◌≤◌, ◌⊎◌, slice_index_or, length, drop}
-use Rattle.py_node.specs.Tree.{Text}
-use Rattle.class_model.specs.Name.{dot}
+use Rattle.class_table.specs.Below.{ℕ, suc, slice_index_or, length, drop, Text, dot}
+use Rattle.std.specs.Prelude.{◌≡◌, ◌<◌, ◌≤◌, ◌⊎◌}
 
 -- the part of a name after its last dot, or all of it
 pub record IsLastPart (name part : Text) : Type 0 where

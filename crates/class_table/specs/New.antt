@@ -1,9 +1,6 @@
 -- The class that is to be made.
-use Rattle.std.specs.Prelude.{◌≡◌, ℕ, List, [], ◌∷◌, Option, Some, None, string_bytes}
-use Rattle.py_node.specs.declared.refs.PyTypeRef.{PyTypeRef}
-use Rattle.py_node.specs.declared.refs.PyStrInterned.{PyStrInterned}
-use Rattle.class_model.specs.Class.{Class, Classes}
-use Rattle.class_model.specs.Layout.{best_of}
+use Rattle.class_table.specs.Below.{ℕ, List, [], Option, Some, None, string_bytes, PyTypeRef, PyStrInterned, Class, Classes, best_of}
+use Rattle.std.specs.Prelude.{◌≡◌, ◌∷◌}
 use Rattle.class_table.specs.Keys.{numbers}
 use Rattle.class_table.specs.Refused.{AreThere}
 use Rattle.class_table.specs.declared.stored.NewClass.{NewClass}

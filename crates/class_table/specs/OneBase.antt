@@ -1,12 +1,7 @@
 -- Classes with one base and no members, which no script makes.
-use Rattle.std.specs.Prelude.{ℕ, ◌-◌, ◌^◌, ◌==◌, Bool, true, false, cond, List, [], ◌∷◌, Option, Some, None}
-use Rattle.std.specs.Int.RustNames.{bit_and, bit_or}
-use Rattle.py_node.specs.declared.raised.Cause.{Cause}
-use Rattle.py_node.specs.declared.raised.Cause.TheVariants.{NotBaseType}
-use Rattle.py_node.specs.declared.refs.PyObjectRef.{PyObjectRef}
-use Rattle.py_node.specs.BuiltIns.{heap_type, has_dict as dict_flag}
-use Rattle.py_node.specs.Tree.{Text}
-use Rattle.class_model.specs.Class.{Class, Classes, class_at}
+use Rattle.class_table.specs.Below.{ℕ, Bool, true, false, cond, List, [], Option, Some, None, bit_and, bit_or, Cause, NotBaseType, PyObjectRef, heap_type, Text, Class, Classes, class_at}
+use Rattle.std.specs.Prelude.{◌-◌, ◌^◌, ◌==◌, ◌∷◌}
+use Rattle.py_node.specs.BuiltIns.{has_dict as dict_flag}
 use Rattle.class_table.specs.Refused.{is_base_at}
 
 -- why a class may not have a base alone: the base may have no subclasses

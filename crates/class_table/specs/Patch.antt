@@ -1,12 +1,6 @@
 -- Slots that are found anew.
-use Rattle.std.specs.Prelude.{◌≡◌, ◌≤◌, ◌<◌, ℕ, true, false, cond, List, Some, length, slice_get}
-use Rattle.py_node.specs.declared.refs.PyStrInterned.{PyStrInterned}
-use Rattle.py_node.specs.declared.entry.SlotId.{SlotId}
-use Rattle.py_node.specs.Slots.{all_slots, place_of, slot_count}
-use Rattle.class_model.specs.Order.{has}
-use Rattle.class_model.specs.Class.{Classes}
-use Rattle.class_model.specs.Slot.{is_name_of, entry, entries}
-use Rattle.class_model.specs.BuiltIn.{natives_of}
+use Rattle.class_table.specs.Below.{ℕ, true, false, cond, List, Some, length, slice_get, PyStrInterned, SlotId, all_slots, place_of, slot_count, has, Classes, is_name_of, entry, entries, natives_of}
+use Rattle.std.specs.Prelude.{◌≡◌, ◌≤◌, ◌<◌}
 use Rattle.class_table.specs.Keys.{table_keys}
 use Rattle.class_table.specs.Stored.{StoredClass, classes_of}
 

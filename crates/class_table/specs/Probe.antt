@@ -1,15 +1,7 @@
 -- The special names, each looked for once along a linearisation.
-use Rattle.std.specs.Prelude.{◌≡◌, ℕ, ◌<◌, Bool, cond, eqb, List, [], ◌∷◌, length, Option, Some, None, slice_get, option_and_then}
-use Rattle.py_node.specs.declared.entry.SlotEntry.{SlotEntry}
-use Rattle.py_node.specs.declared.entry.SlotId.{SlotId}
-use Rattle.py_node.specs.declared.known.Known.{Known}
+use Rattle.class_table.specs.Below.{ℕ, Bool, cond, eqb, List, [], length, Option, Some, None, slice_get, option_and_then, SlotEntry, SlotId, Known, PyObjectRef, PyStrInterned, is_same_name, number_of, Classes, class_at, own_of, along, or_else, wrapped}
+use Rattle.std.specs.Prelude.{◌≡◌, ◌<◌, ◌∷◌}
 use Rattle.py_node.specs.declared.known.Known.TheVariants as known
-use Rattle.py_node.specs.declared.refs.PyObjectRef.{PyObjectRef}
-use Rattle.py_node.specs.declared.refs.PyStrInterned.{PyStrInterned}
-use Rattle.py_node.specs.Attributes.{is_same_name}
-use Rattle.py_node.specs.Known.{number_of}
-use Rattle.class_model.specs.Class.{Classes, class_at, own_of, along, or_else}
-use Rattle.class_model.specs.Slot.{wrapped}
 
 -- how many special names there are: they have the first numbers
 abbrev pub special_count : ℕ

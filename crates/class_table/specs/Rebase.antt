@@ -1,14 +1,6 @@
 -- Other bases for a class, and why they are refused.
-use Rattle.std.specs.Prelude.{ℕ, Bool, true, false, cond, ◌&&◌, ◌||◌, eqb, List, [], ◌∷◌, Option, Some, None, option_map, option_and_then, ◌≡◌, Result, Ok, Err}
-use Rattle.std.specs.Option.{option_or}
-use Rattle.py_node.specs.declared.raised.Cause.{Cause}
-use Rattle.py_node.specs.declared.raised.Cause.TheVariants.{EmptyBases, ImmutableType, InheritanceCycle, LayoutDiffers, DuplicateBase}
-use Rattle.class_model.specs.Order.{is_distinct}
-use Rattle.class_model.specs.Class.{Classes, class_at, is_sub}
-use Rattle.class_model.specs.Layout.{is_empty, solid, base}
-use Rattle.class_model.specs.Dict.{alike, has_dict, keeps_dict}
-use Rattle.class_model.specs.Change.{failing}
-use Rattle.class_model.specs.Slot.{is_heap_at}
+use Rattle.class_table.specs.Below.{ℕ, Bool, true, false, cond, eqb, List, [], Option, Some, None, option_map, option_and_then, Result, Ok, Err, option_or, Cause, EmptyBases, ImmutableType, InheritanceCycle, LayoutDiffers, DuplicateBase, is_distinct, Classes, class_at, is_sub, is_empty, solid, base, alike, has_dict, keeps_dict, failing, is_heap_at}
+use Rattle.std.specs.Prelude.{◌&&◌, ◌||◌, ◌∷◌, ◌≡◌}
 use Rattle.class_table.specs.Refused.{refused_attr, refused_layout, most_derived}
 use Rattle.class_table.specs.declared.fault.ClassFault.{ClassFault}
 use Rattle.class_table.specs.declared.fault.ClassFault.TheVariants.{Refused, RefusedAt, OutOfMemory}

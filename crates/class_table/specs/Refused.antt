@@ -1,15 +1,6 @@
 -- When a class is refused.
-use Rattle.std.specs.Prelude.{◌≡◌, ℕ, Bool, true, false, not, cond, ◌||◌, List, [], ◌∷◌, ◌++◌, map, Option, Some, None, is_some, option_and_then, Result, Ok, Err}
-use Rattle.std.specs.Option.{option_or}
-use Rattle.py_node.specs.declared.raised.Cause.{Cause}
-use Rattle.py_node.specs.declared.raised.Cause.TheVariants.{EmptyBases, NotBaseType, LayoutConflict, DuplicateBase, ImmutableType}
-use Rattle.py_node.specs.BuiltIns.{base_type}
-use Rattle.class_model.specs.Order.{is_distinct, least_order, all_some}
-use Rattle.class_model.specs.Class.{Class, Classes, class_at, is_class, has_flag, lin, is_sub}
-use Rattle.class_model.specs.Numbers.{limit}
-use Rattle.class_model.specs.Layout.{solid, best_of}
-use Rattle.class_model.specs.Change.{order_cause}
-use Rattle.class_model.specs.Slot.{is_heap_at}
+use Rattle.class_table.specs.Below.{ℕ, Bool, true, false, not, cond, List, [], map, Option, Some, None, is_some, option_and_then, Result, Ok, Err, option_or, Cause, EmptyBases, NotBaseType, LayoutConflict, DuplicateBase, ImmutableType, base_type, is_distinct, least_order, all_some, Class, Classes, class_at, is_class, has_flag, lin, is_sub, limit, solid, best_of, order_cause, is_heap_at}
+use Rattle.std.specs.Prelude.{◌≡◌, ◌||◌, ◌∷◌, ◌++◌}
 use Rattle.class_table.specs.declared.fault.ClassFault.{ClassFault}
 use Rattle.class_table.specs.declared.fault.ClassFault.TheVariants.{Refused, RefusedAt, OutOfMemory}
 

@@ -1,10 +1,6 @@
 -- What other bases of a class make of what is kept of some classes.
-use Rattle.std.specs.Prelude.{◌≡◌, ℕ, List, length, Some, slice_get}
-use Rattle.py_node.specs.declared.refs.PyStrInterned.{PyStrInterned}
-use Rattle.class_model.specs.Order.{Includes}
-use Rattle.class_model.specs.Class.{Classes, lin, subclasses}
-use Rattle.class_model.specs.Layout.{base, place_count}
-use Rattle.class_model.specs.Change.{with_bases}
+use Rattle.class_table.specs.Below.{ℕ, List, length, Some, slice_get, PyStrInterned, Includes, Classes, lin, subclasses, base, place_count, with_bases}
+use Rattle.std.specs.Prelude.{◌≡◌}
 use Rattle.class_table.specs.Keys.{numbers, number_of}
 use Rattle.class_table.specs.Stored.{StoredClass, classes_of}
 use Rattle.class_table.specs.declared.renew.Renewed.{Renewed}

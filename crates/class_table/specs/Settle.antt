@@ -1,10 +1,6 @@
 -- Slots that are found anew after the bases of a class were changed, and how many places are looked at.
-use Rattle.std.specs.Prelude.{◌≡◌, ℕ, ◌+◌, Bool, true, cond, ◌&&◌, not, List, [], ◌∷◌, map, length, Option, Some, None, slice_get}
-use Rattle.std.specs.List.{sum_by}
-use Rattle.class_model.specs.Order.{has}
-use Rattle.class_model.specs.Class.{Classes, is_heap, lin}
-use Rattle.class_model.specs.Slot.{entries}
-use Rattle.class_model.specs.BuiltIn.{natives_of}
+use Rattle.class_table.specs.Below.{ℕ, Bool, true, cond, not, List, [], map, length, Option, Some, None, slice_get, sum_by, has, Classes, is_heap, lin, entries, natives_of}
+use Rattle.std.specs.Prelude.{◌≡◌, ◌+◌, ◌&&◌, ◌∷◌}
 use Rattle.class_table.specs.Keys.{table_keys}
 use Rattle.class_table.specs.Stored.{StoredClass, class_of, classes_of}
 use Rattle.class_table.specs.Patch.{settled}

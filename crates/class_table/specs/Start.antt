@@ -1,17 +1,7 @@
 -- The classes of a new world, by the numbers of names and of objects: the built-in classes with their own attributes. In order, each attribute holds the next new object, past the fixed ones, or None, which is one of those.
-use Rattle.std.specs.Prelude.{◌≡◌, ℕ, suc, true, fold}
-use Rattle.py_node.specs.declared.attr.Attr.{Attr}
-use Rattle.py_node.specs.declared.attr.Attr.TheVariants.{NoHash}
-use Rattle.py_node.specs.declared.built_in.BuiltIn.{BuiltIn}
-use Rattle.py_node.specs.declared.known.Known.{Known}
-use Rattle.py_node.specs.declared.refs.PyStrInterned.{PyStrInterned}
-use Rattle.py_node.specs.Attributes.{is_same_name}
-use Rattle.py_node.specs.BuiltIns.{place_of, all_built_ins, fixed_none, fixed_node_count}
-use Rattle.py_node.specs.Known.{number_of}
-use Rattle.py_node.specs.OwnAttrs.{own_attrs}
-use Rattle.class_model.specs.Class.{Classes, is_class}
-use Rattle.class_model.specs.Change.{with_class_attr}
-use Rattle.class_model.specs.Start.{built_in_classes}
+use Rattle.class_table.specs.Below.{ℕ, suc, true, fold, Attr, NoHash, BuiltIn, Known, PyStrInterned, is_same_name, all_built_ins, fixed_none, fixed_node_count, number_of, own_attrs, Classes, is_class, with_class_attr, built_in_classes}
+use Rattle.std.specs.Prelude.{◌≡◌}
+use Rattle.py_node.specs.BuiltIns.{place_of}
 
 -- classes, and the number of the next new object
 abbrev pub Numbered : Type 0

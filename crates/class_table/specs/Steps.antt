@@ -1,5 +1,6 @@
 -- What is counted of a change of bases.
-use Rattle.std.specs.Prelude.{ℕ, ◌+◌, ◌≤◌}
+use Rattle.class_table.specs.Below.{ℕ}
+use Rattle.std.specs.Prelude.{◌+◌, ◌≤◌}
 
 pub record Counts : Type 0 where
   pub merges : ℕ

@@ -1,10 +1,6 @@
 -- What the table keeps of a class.
-use Rattle.std.specs.Prelude.{◌≡◌, ℕ, Bool, List, Option, Some, map, slice_get, option_map}
-use Rattle.py_node.specs.declared.refs.PyStrInterned.{PyStrInterned}
-use Rattle.py_node.specs.declared.refs.PyObjectRef.{PyObjectRef}
-use Rattle.py_node.specs.declared.entry.SlotEntry.{SlotEntry}
-use Rattle.py_node.specs.Tree.{Text}
-use Rattle.class_model.specs.Class.{Class, Classes}
+use Rattle.class_table.specs.Below.{ℕ, Bool, List, Option, Some, map, slice_get, option_map, PyStrInterned, PyObjectRef, SlotEntry, Text, Class, Classes}
+use Rattle.std.specs.Prelude.{◌≡◌}
 
 pub record StoredClass : Type 0 where
   pub name : Text

@@ -1,9 +1,6 @@
 -- The tables of sequences and mappings.
-use Rattle.std.specs.Prelude.{Bool, false, cond, ◌||◌, is_some, List, [], ◌∷◌, Option}
-use Rattle.py_node.specs.declared.entry.SlotEntry.{SlotEntry}
-use Rattle.py_node.specs.declared.entry.SlotId.{SlotId}
-use Rattle.py_node.specs.declared.slots.Sort.{Sort}
-use Rattle.py_node.specs.declared.slots.Sort.TheVariants.{BySequence, ByMapping}
+use Rattle.class_table.specs.Below.{Bool, false, cond, is_some, List, [], Option, SlotEntry, SlotId, Sort, BySequence, ByMapping}
+use Rattle.std.specs.Prelude.{◌||◌, ◌∷◌}
 
 abbrev pub table_sort : Bool → Sort
 table_sort mapping = cond mapping ByMapping BySequence

@@ -1,15 +1,7 @@
 -- What other bases of a class make of the linearisations.
-use Rattle.std.specs.Prelude.{◌≡◌, ℕ, ◌<◌, true, cond, eqb, List, map, Option, Some, None, slice_get}
-use Rattle.std.specs.Borrow.{Bor}
-use Rattle.std.specs.Map.{lookup}
-use Rattle.std.specs.Global.{Vec}
-use Rattle.py_node.specs.declared.refs.PyStrInterned.{PyStrInterned}
-use Rattle.py_node.specs.declared.refs.PyTypeRef.{PyTypeRef}
-use Rattle.py_node.specs.declared.raised.Cause.{Cause}
-use Rattle.class_model.specs.Order.{has, all_some}
-use Rattle.class_model.specs.Class.{Classes, bases_of, lin}
-use Rattle.class_model.specs.Change.{with_bases, order_cause}
-use Rattle.mro_merge.specs.Lists.{rows}
+use Rattle.class_table.specs.Below.{ℕ, true, cond, eqb, List, map, Option, Some, None, slice_get, Bor, lookup, Vec, PyStrInterned, PyTypeRef, Cause, has, all_some, Classes, bases_of, lin, with_bases, order_cause}
+use Rattle.std.specs.Prelude.{◌≡◌, ◌<◌}
+use Rattle.class_table.specs.MroMerge.Lists.{rows}
 use Rattle.class_table.specs.Keys.{numbers}
 use Rattle.class_table.specs.Stored.{StoredClass, classes_of}
 use Rattle.class_table.specs.declared.descendants.Ranked.{Ranked}

@@ -1,6 +1,6 @@
 -- The candidates of an operator, as they are handed out, and which slots stand in one table.
-use Rattle.std.specs.Prelude.{List, [], ◌∷◌, Option, Some, None}
-use Rattle.py_node.specs.declared.entry.SlotEntry.{SlotEntry}
+use Rattle.class_table.specs.Below.{List, [], Option, Some, None, SlotEntry}
+use Rattle.std.specs.Prelude.{◌∷◌}
 use Rattle.class_table.specs.declared.candidates.Candidates.{Candidates}
 
 abbrev pub list_both : Option SlotEntry → Option SlotEntry → List SlotEntry

@@ -1,14 +1,7 @@
 //! A class that is made.
 
-ghost use Rattle.std.specs.Prelude.{◌≡◌, ◌≤◌, ◌||◌, ◌++◌, ◌∷◌, [], ℕ, List, cond, not, nat_lt, length, Some, OnOk, OnErr, IfOk, true};
-ghost use Rattle.py_node.specs.Attributes.{AreNamesDistinct};
-ghost use Rattle.py_node.specs.Slots.{slot_count};
-ghost use Rattle.class_model.specs.Order.{Distinct};
-ghost use Rattle.class_model.specs.Class.{is_class};
-ghost use Rattle.class_model.specs.Numbers.{is_ascending, limit};
-ghost use Rattle.class_model.specs.Layout.{built_ins, is_empty};
-ghost use Rattle.class_model.specs.Dict.{says_dict, has_its_dict};
-ghost use Rattle.class_model.specs.Change.{with_class};
+ghost use Rattle.class_table.specs.Below.{[], ℕ, List, cond, not, nat_lt, length, Some, OnOk, OnErr, IfOk, true, AreNamesDistinct, slot_count, Distinct, is_class, is_ascending, limit, built_ins, is_empty, says_dict, has_its_dict, with_class};
+ghost use Rattle.std.specs.Prelude.{◌≡◌, ◌≤◌, ◌||◌, ◌++◌, ◌∷◌};
 ghost use Rattle.class_table.specs.Stored.{StoredClass, classes_of};
 ghost use Rattle.class_table.specs.Keys.{numbers, number_of};
 ghost use Rattle.class_table.specs.Coherent.{IsCoherent};

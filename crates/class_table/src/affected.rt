@@ -1,7 +1,7 @@
 //! The classes of which a change of bases may touch more than the slots.
 
-ghost use Rattle.std.specs.Prelude.{◌≡◌, true, IfOk};
-ghost use Rattle.class_model.specs.Class.{is_class};
+ghost use Rattle.class_table.specs.Below.{true, IfOk, is_class};
+ghost use Rattle.std.specs.Prelude.{◌≡◌};
 ghost use Rattle.class_table.specs.Keys.{numbers};
 ghost use Rattle.class_table.specs.Stored.{classes_of};
 ghost use Rattle.class_table.specs.Coherent.{IsCoherent};

@@ -1,8 +1,8 @@
 //! The own attributes of the built-in classes, as a new table gets them: each with the number of the object that it
 //! holds in a new world.
 
-ghost use Rattle.std.specs.Prelude.{◌≡◌, ◌<◌, ◌≤◌, IfOk, OnOk};
-ghost use Rattle.py_node.specs.BuiltIns.{fixed_node_count};
+ghost use Rattle.class_table.specs.Below.{IfOk, OnOk, fixed_node_count};
+ghost use Rattle.std.specs.Prelude.{◌≡◌, ◌<◌, ◌≤◌};
 ghost use Rattle.class_table.specs.Start.{HasBuiltIns, value_number, number_past, with_own, with_all_own, with_each_own};
 
 use crate::table::ClassTable;

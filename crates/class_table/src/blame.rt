@@ -1,8 +1,7 @@
 //! The class that is to blame where other bases leave no order.
 
-ghost use Rattle.std.specs.Prelude.{◌≡◌, ◌<◌, ◌≤◌, ◌⊎◌, ℕ, false, true, None, Some, IfSome, IfNone, option_map, slice_get};
-ghost use Rattle.class_model.specs.Order.{has};
-ghost use Rattle.class_model.specs.Change.{is_blamed, caused, failing};
+ghost use Rattle.class_table.specs.Below.{ℕ, false, true, None, Some, IfSome, IfNone, option_map, slice_get, has, is_blamed, caused, failing};
+ghost use Rattle.std.specs.Prelude.{◌≡◌, ◌<◌, ◌≤◌, ◌⊎◌};
 ghost use Rattle.class_table.specs.Keys.{numbers};
 ghost use Rattle.class_table.specs.Stored.{StoredClass, classes_of};
 ghost use Rattle.class_table.specs.Coherent.{IsCoherent};

@@ -1,9 +1,7 @@
 //! The answers of look-ups, kept until a class changes.
 
-ghost use Rattle.std.specs.Prelude.{◌≡◌, IfSome, IfOk, Some, slice_set};
-ghost use Rattle.py_node.specs.declared.refs.PyStrInterned.{PyStrInterned as Name};
-ghost use Rattle.py_node.specs.Attributes.{is_same_name};
-ghost use Rattle.class_model.specs.Class.{Classes, found};
+ghost use Rattle.class_table.specs.Below.{IfSome, IfOk, Some, slice_set, PyStrInterned as Name, is_same_name, Classes, found};
+ghost use Rattle.std.specs.Prelude.{◌≡◌};
 ghost use Rattle.class_table.specs.Cache.{IsCached, AreEmpty};
 
 use py_node::{OutOfMemory, PyObjectRef, PyStrInterned, PyTypeRef};

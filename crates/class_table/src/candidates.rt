@@ -1,9 +1,7 @@
 //! The candidates of an operator.
 
-ghost use Rattle.std.specs.Prelude.{◌≡◌, true};
-ghost use Rattle.class_model.specs.Class.{is_class};
-ghost use Rattle.class_model.specs.Slot.{in_turn, is_other_node, is_overridden, goes_first, without_same, candidates_of};
-ghost use Rattle.class_model.specs.BuiltIn.{natives_of};
+ghost use Rattle.class_table.specs.Below.{true, is_class, in_turn, is_other_node, is_overridden, goes_first, without_same, candidates_of, natives_of};
+ghost use Rattle.std.specs.Prelude.{◌≡◌};
 ghost use Rattle.class_table.specs.Keys.{table_keys};
 ghost use Rattle.class_table.specs.Turn.{list_of};
 

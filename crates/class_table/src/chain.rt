@@ -1,10 +1,7 @@
 //! A class, its best base, and so on.
 
-ghost use Rattle.std.specs.Prelude.{◌≡◌, ◌∷◌, true, Some, None, IfSome, ◌↔◌};
-ghost use Rattle.std.specs.Iterator.{YieldsFirstBy, item_count};
-ghost use Rattle.class_model.specs.Class.{is_class};
-ghost use Rattle.class_model.specs.Layout.{base};
-ghost use Rattle.class_model.specs.Chain.{chain_from, base_chain, IsChain};
+ghost use Rattle.class_table.specs.Below.{true, Some, None, IfSome, YieldsFirstBy, item_count, is_class, base, chain_from, base_chain, IsChain};
+ghost use Rattle.std.specs.Prelude.{◌≡◌, ◌∷◌, ◌↔◌};
 ghost use Rattle.class_table.specs.Stored.{classes_of};
 ghost use Rattle.class_table.specs.Keys.{number_of};
 ghost use Rattle.class_table.specs.Coherent.{IsCoherent};

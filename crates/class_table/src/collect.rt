@@ -1,9 +1,7 @@
 //! What the classes along a linearisation have, put together.
 
-ghost use Rattle.std.specs.Prelude.{◌≡◌, true, IfOk, OnOk, Some};
-ghost use Rattle.py_node.specs.Attributes.{is_same_name};
-ghost use Rattle.class_model.specs.Numbers.{is_ascending};
-ghost use Rattle.class_model.specs.Collect.{with_values, attributes_along};
+ghost use Rattle.class_table.specs.Below.{true, IfOk, OnOk, Some, is_same_name, is_ascending, with_values, attributes_along};
+ghost use Rattle.std.specs.Prelude.{◌≡◌};
 ghost use Rattle.class_table.specs.Stored.{classes_of};
 ghost use Rattle.class_table.specs.Keys.{numbers};
 ghost use Rattle.class_table.specs.Given.{AreGiven};

@@ -1,9 +1,7 @@
 //! How many places the objects of a class have.
 
-ghost use Rattle.std.specs.Prelude.{◌≡◌, ◌+◌, true, IfOk, Some};
-ghost use Rattle.class_model.specs.Class.{class_at, is_class};
-ghost use Rattle.class_model.specs.Numbers.{is_ascending};
-ghost use Rattle.class_model.specs.Layout.{member_count, members_in, place_count};
+ghost use Rattle.class_table.specs.Below.{true, IfOk, Some, class_at, is_class, is_ascending, member_count, members_in, place_count};
+ghost use Rattle.std.specs.Prelude.{◌≡◌, ◌+◌};
 ghost use Rattle.class_table.specs.Keys.{numbers};
 ghost use Rattle.class_table.specs.Stored.{classes_of};
 ghost use Rattle.class_table.specs.Coherent.{IsCoherent};

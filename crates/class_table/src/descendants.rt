@@ -1,8 +1,7 @@
 //! The class whose bases change, and all that derive from it.
 
-ghost use Rattle.std.specs.Prelude.{◌≡◌, ◌<◌, ◌≤◌, ℕ, true, length, IfOk, OnOk, slice_get};
-ghost use Rattle.class_model.specs.Order.{Includes};
-ghost use Rattle.class_model.specs.Class.{is_class};
+ghost use Rattle.class_table.specs.Below.{ℕ, true, length, IfOk, OnOk, slice_get, Includes, is_class};
+ghost use Rattle.std.specs.Prelude.{◌≡◌, ◌<◌, ◌≤◌};
 ghost use Rattle.class_table.specs.Keys.{numbers};
 ghost use Rattle.class_table.specs.Stored.{StoredClass, classes_of};
 ghost use Rattle.class_table.specs.Coherent.{IsCoherent};

@@ -1,10 +1,7 @@
 //! Which classes give their objects a dict, and what `__slots__` say of it.
 
-ghost use Rattle.std.specs.Prelude.{◌≡◌, ◌||◌, true, filter, not};
-ghost use Rattle.std.specs.List.{list_any};
-ghost use Rattle.class_model.specs.Class.{class_at, is_class};
-ghost use Rattle.class_model.specs.Dict.{alike, has_dict, any_has_dict, keeps_dict, is_dict, slot_members, slots_bring};
-ghost use Rattle.class_model.specs.Numbers.{is_ascending};
+ghost use Rattle.class_table.specs.Below.{true, filter, not, list_any, class_at, is_class, alike, has_dict, any_has_dict, keeps_dict, is_dict, slot_members, slots_bring, is_ascending};
+ghost use Rattle.std.specs.Prelude.{◌≡◌, ◌||◌};
 ghost use Rattle.class_table.specs.Keys.{numbers, table_keys, slot_names};
 ghost use Rattle.class_table.specs.Stored.{classes_of};
 

@@ -1,8 +1,7 @@
 //! One class of those that are kept is changed, but for its linearisation.
 
-ghost use Rattle.std.specs.Prelude.{◌≡◌, ◌<◌, ◌++◌, ◌∷◌, [], ℕ, List, length, OnErr, OnOk, is_some, slice_index_or, slice_set, string_bytes};
-ghost use Rattle.py_node.specs.Attributes.{value_of, with_value, without_key, is_same_name};
-ghost use Rattle.py_node.specs.Slots.{place_of};
+ghost use Rattle.class_table.specs.Below.{[], ℕ, List, length, OnErr, OnOk, is_some, slice_index_or, slice_set, string_bytes, value_of, with_value, without_key, is_same_name, place_of};
+ghost use Rattle.std.specs.Prelude.{◌≡◌, ◌<◌, ◌++◌, ◌∷◌};
 ghost use Rattle.class_table.specs.Keys.{numbers};
 ghost use Rattle.class_table.specs.Renewed.{renewed_but_line};
 ghost use Rattle.class_table.specs.Stored.{StoredClass, classes_of};

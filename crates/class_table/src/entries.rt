@@ -1,12 +1,7 @@
 //! What a class itself has in a slot, found from the attributes and linearisations that are kept.
 
-ghost use Rattle.std.specs.Prelude.{◌≡◌, ◌<◌, ◌&&◌, true, not, Some, length, slice_index_or};
-ghost use Rattle.py_node.specs.Attributes.{value_of, is_same_name};
-ghost use Rattle.py_node.specs.Slots.{sort_of};
-ghost use Rattle.class_model.specs.Class.{class_at, is_heap, own_of, along, first_along};
-ghost use Rattle.class_model.specs.Slot.{is_none, is_name_of, wrapped, heap_entry, given_entry, is_by_itself, entry};
-ghost use Rattle.class_model.specs.Numbers.{is_ascending};
-ghost use Rattle.class_model.specs.BuiltIn.{natives_of};
+ghost use Rattle.class_table.specs.Below.{true, not, Some, length, slice_index_or, value_of, is_same_name, sort_of, class_at, is_heap, own_of, along, first_along, is_none, is_name_of, wrapped, heap_entry, given_entry, is_by_itself, entry, is_ascending, natives_of};
+ghost use Rattle.std.specs.Prelude.{◌≡◌, ◌<◌, ◌&&◌};
 ghost use Rattle.class_table.specs.Stored.{StoredClass, class_of, classes_of};
 ghost use Rattle.class_table.specs.Keys.{numbers, table_keys};
 ghost use Rattle.class_table.specs.Coherent.{HasLines};

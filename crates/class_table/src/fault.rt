@@ -3,7 +3,7 @@
 ghost use Rattle.std.specs.Prelude.{◌≡◌};
 ghost use Rattle.class_table.specs.Inherit.{fault_of};
 
-use mro_merge::MroFault;
+use crate::mro_merge::MroFault;
 use py_node::{Cause, OutOfMemory, PyTypeRef};
 
 /// Why a class could not be made or changed.

@@ -1,12 +1,7 @@
 //! Classes as scripts make and change them.
 
-ghost use Rattle.std.specs.Prelude.{◌≡◌, true, false, ◌≤◌, Ok, OnOk, OnErr, IfOk, is_some};
-ghost use Rattle.py_node.specs.Attributes.{is_same_name};
-ghost use Rattle.class_model.specs.Class.{class_at, is_class, own_of};
-ghost use Rattle.class_model.specs.Numbers.{is_ascending, limit};
-ghost use Rattle.class_model.specs.Change.{with_class, with_class_attr, without_class_attr};
-ghost use Rattle.class_model.specs.Slot.{is_heap_at};
-ghost use Rattle.class_model.specs.Dict.{heap_class};
+ghost use Rattle.class_table.specs.Below.{true, false, Ok, OnOk, OnErr, IfOk, is_some, is_same_name, class_at, is_class, own_of, is_ascending, limit, with_class, with_class_attr, without_class_attr, is_heap_at, heap_class};
+ghost use Rattle.std.specs.Prelude.{◌≡◌, ◌≤◌};
 ghost use Rattle.class_table.specs.Keys.{numbers, table_keys, slot_names};
 ghost use Rattle.class_table.specs.New.{class_of_new};
 ghost use Rattle.class_table.specs.Stored.{classes_of};

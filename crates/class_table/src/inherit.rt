@@ -1,10 +1,8 @@
 //! What a class gets from its bases: the best of them, and its linearisation.
 
-ghost use Rattle.std.specs.Prelude.{◌≡◌, ◌≤◌, true, length, Some, map, IfOk, IfSome, option_and_then};
-ghost use Rattle.class_model.specs.Class.{class_at, is_class, lin};
-ghost use Rattle.class_model.specs.Numbers.{is_ascending, limit};
-ghost use Rattle.class_model.specs.Layout.{solid, best_of};
-ghost use Rattle.mro_merge.specs.Lists.{rows};
+ghost use Rattle.class_table.specs.Below.{true, length, Some, map, IfOk, IfSome, option_and_then, class_at, is_class, lin, is_ascending, limit, solid, best_of};
+ghost use Rattle.std.specs.Prelude.{◌≡◌, ◌≤◌};
+ghost use Rattle.class_table.specs.MroMerge.Lists.{rows};
 ghost use Rattle.class_table.specs.Keys.{numbers, number_of};
 ghost use Rattle.class_table.specs.Stored.{classes_of};
 ghost use Rattle.class_table.specs.Coherent.{IsCoherent};
@@ -13,9 +11,9 @@ ghost use Rattle.class_table.specs.Refused.{refusal, WithMemory, cause_of, is_ba
 ghost use Rattle.class_table.specs.Inherit.{is_under, better_of, next_best, best_along, number_found, number_best, Follows};
 
 use crate::fault::{ClassFault, merge_fault};
+use crate::mro_merge::laws::resolve_mro;
 use crate::place::{find, find_place, stored_at};
 use crate::stored_classes::StoredClasses;
-use mro_merge::laws::resolve_mro;
 use py_node::{Cause, OutOfMemory, PyTypeFlags, PyTypeRef};
 use std::alloc::Global;
 

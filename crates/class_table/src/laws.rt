@@ -1,16 +1,7 @@
 //! What is so of every table of classes, and is the result of no call.
 
-ghost use Rattle.std.specs.Prelude.{◌≡◌, ◌<◌, ◌↔◌, ℕ, List, true, Some, None, is_some};
-ghost use Rattle.class_model.specs.Order.{Distinct, Includes, Subsequence};
-ghost use Rattle.py_node.specs.declared.refs.PyObjectRef.{PyObjectRef};
-ghost use Rattle.py_node.specs.declared.refs.PyStrInterned.{PyStrInterned};
-ghost use Rattle.py_node.specs.Attributes.{is_same_name};
-ghost use Rattle.class_model.specs.Class.{class_at, is_class, own_of, bases_of, lin, is_sub};
-ghost use Rattle.class_model.specs.Change.{with_class_attr, without_class_attr, with_bases};
-ghost use Rattle.class_model.specs.Layout.{is_place, layout, place_at, place_count};
-ghost use Rattle.class_model.specs.Offset.{offset_of};
-ghost use Rattle.class_model.specs.Sound.{AreSound};
-ghost use Rattle.class_model.specs.Failing.{FailsAsSaid, PassesAsSaid};
+ghost use Rattle.class_table.specs.Below.{ℕ, List, true, Some, None, is_some, Distinct, Includes, Subsequence, PyObjectRef, PyStrInterned, is_same_name, class_at, is_class, own_of, bases_of, lin, is_sub, with_class_attr, without_class_attr, with_bases, is_place, layout, place_at, place_count, offset_of, AreSound, FailsAsSaid, PassesAsSaid};
+ghost use Rattle.std.specs.Prelude.{◌≡◌, ◌<◌, ◌↔◌};
 ghost use Rattle.class_table.specs.Refused.{AreThere};
 ghost use Rattle.class_table.specs.Rebase.{refused_rebase};
 

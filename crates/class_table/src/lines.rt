@@ -1,6 +1,7 @@
 //! The linearisations of classes, one after the other in one array.
 
-ghost use Rattle.std.specs.Prelude.{◌≡◌, ◌+◌, ◌<◌, ◌≤◌, ℕ, List, ◌++◌, ◌∷◌, [], OnOk, OnErr, length, take, drop, slice_index_or};
+ghost use Rattle.class_table.specs.Below.{ℕ, List, [], OnOk, OnErr, length, take, drop, slice_index_or};
+ghost use Rattle.std.specs.Prelude.{◌≡◌, ◌+◌, ◌<◌, ◌≤◌, ◌++◌, ◌∷◌};
 ghost use Rattle.class_table.specs.Keys.{numbers};
 
 use py_node::{OutOfMemory, PyTypeRef};

@@ -1,8 +1,7 @@
 //! How the value of a name is found for a class.
 
-ghost use Rattle.std.specs.Prelude.{◌≡◌, true, is_some};
-ghost use Rattle.py_node.specs.Attributes.{is_same_name};
-ghost use Rattle.class_model.specs.Class.{class_at, is_class, found, found_past, own_of};
+ghost use Rattle.class_table.specs.Below.{true, is_some, is_same_name, class_at, is_class, found, found_past, own_of};
+ghost use Rattle.std.specs.Prelude.{◌≡◌};
 ghost use Rattle.class_table.specs.Coherent.{IsCoherent};
 ghost use Rattle.class_table.specs.Stored.{classes_of};
 

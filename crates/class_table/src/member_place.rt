@@ -1,9 +1,7 @@
 //! The place that an offset stands for in the objects of a class.
 
-ghost use Rattle.std.specs.Prelude.{◌≡◌, true, option_map};
-ghost use Rattle.class_model.specs.Class.{is_class};
-ghost use Rattle.class_model.specs.Numbers.{is_ascending};
-ghost use Rattle.class_model.specs.Layout.{layout_along, members_in, place_along, place_at};
+ghost use Rattle.class_table.specs.Below.{true, option_map, is_class, is_ascending, layout_along, members_in, place_along, place_at};
+ghost use Rattle.std.specs.Prelude.{◌≡◌};
 ghost use Rattle.class_table.specs.Keys.{numbers};
 ghost use Rattle.class_table.specs.Stored.{classes_of};
 ghost use Rattle.class_table.specs.Coherent.{IsCoherent};

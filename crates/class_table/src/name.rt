@@ -1,9 +1,7 @@
 //! The name of a class without the parts before it.
 
-ghost use Rattle.std.specs.Prelude.{◌≡◌, true, false, Some, option_map};
-ghost use Rattle.py_node.specs.declared.refs.PyStrInterned.{PyStrInterned};
-ghost use Rattle.class_model.specs.Class.{Class, class_at, is_class, is_heap};
-ghost use Rattle.class_model.specs.Name.{last_part as past_dots, short_name};
+ghost use Rattle.class_table.specs.Below.{true, false, Some, option_map, PyStrInterned, Class, class_at, is_class, is_heap, last_part as past_dots, short_name};
+ghost use Rattle.std.specs.Prelude.{◌≡◌};
 ghost use Rattle.class_table.specs.Name.{IsLastPart};
 
 use crate::table::ClassTable;

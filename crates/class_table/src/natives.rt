@@ -1,8 +1,7 @@
 //! What stands in the slots of the built-in classes: their own attributes say it.
 
 ghost use Rattle.std.specs.Prelude.{◌≡◌};
-ghost use Rattle.py_node.specs.Slots.{names_of, filling_of};
-ghost use Rattle.class_model.specs.BuiltIn.{is_among, is_number, is_sequence, fills, new_native, compare_native, entry_of, entry_among, natives_of};
+ghost use Rattle.class_table.specs.Below.{names_of, filling_of, is_among, is_number, is_sequence, fills, new_native, compare_native, entry_of, entry_among, natives_of};
 
 use py_node::attr::OwnAttr;
 use py_node::built_in::BUILT_IN_COUNT;

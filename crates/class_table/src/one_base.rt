@@ -1,11 +1,8 @@
 //! Classes with one base and no members: simple ones as scripts make them, and static ones, which scripts can't change.
 
-ghost use Rattle.std.specs.Prelude.{◌≡◌, ◌≤◌, ◌||◌, ◌∷◌, [], true, OnOk, OnErr, IfOk, Some, None};
-ghost use Rattle.class_model.specs.Class.{class_at, is_class};
-ghost use Rattle.class_model.specs.Numbers.{limit};
-ghost use Rattle.class_model.specs.Change.{with_class};
+ghost use Rattle.class_table.specs.Below.{[], true, OnOk, OnErr, IfOk, Some, None, class_at, is_class, limit, with_class, says_dict, has_dict, heap_class};
+ghost use Rattle.std.specs.Prelude.{◌≡◌, ◌≤◌, ◌||◌, ◌∷◌};
 ghost use Rattle.class_table.specs.New.{class_of_new};
-ghost use Rattle.class_model.specs.Dict.{says_dict, has_dict, heap_class};
 ghost use Rattle.class_table.specs.Keys.{table_keys};
 ghost use Rattle.class_table.specs.Refused.{refusal, is_base_at, NamesNoClass};
 ghost use Rattle.class_table.specs.OneBase.{refused_single, single_class, says_so, static_flags};

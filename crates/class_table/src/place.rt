@@ -1,8 +1,7 @@
 //! How a class is found by its number.
 
-ghost use Rattle.std.specs.Prelude.{◌≡◌, ◌<◌, true, length, slice_get, Some, None, IfSome, IfNone, option_map, leb};
-ghost use Rattle.class_model.specs.Class.{class_at, is_class};
-ghost use Rattle.class_model.specs.Numbers.{is_ascending, limit, numbers_of};
+ghost use Rattle.class_table.specs.Below.{true, length, slice_get, Some, None, IfSome, IfNone, option_map, leb, class_at, is_class, is_ascending, limit, numbers_of};
+ghost use Rattle.std.specs.Prelude.{◌≡◌, ◌<◌};
 ghost use Rattle.class_table.specs.Stored.{IsHere, class_of, number_at, classes_of};
 
 use crate::stored_classes::StoredClasses;

@@ -1,7 +1,7 @@
 //! Places, each once.
 
-ghost use Rattle.std.specs.Prelude.{◌≡◌, ℕ, List, [], ◌∷◌, ◌++◌, cond, IfNone, IfSome, OnOk, Some, slice_get};
-ghost use Rattle.class_model.specs.Order.{has, Distinct, Includes};
+ghost use Rattle.class_table.specs.Below.{ℕ, List, [], cond, IfNone, IfSome, OnOk, Some, slice_get, has, Distinct, Includes};
+ghost use Rattle.std.specs.Prelude.{◌≡◌, ◌∷◌, ◌++◌};
 
 use indexmap::IndexSet;
 use py_node::OutOfMemory;

@@ -1,10 +1,7 @@
 //! The special names, each looked for once along a linearisation, and what they give in the slots.
 
-ghost use Rattle.std.specs.Prelude.{◌≡◌, ◌<◌, ◌≤◌, ◌*◌, ◌-◌, ◌⊎◌, ℕ, ◌∷◌, [], true, length, Some, slice_get, slice_index_or};
-ghost use Rattle.py_node.specs.Attributes.{is_same_name, value_of};
-ghost use Rattle.py_node.specs.Slots.{names_of};
-ghost use Rattle.class_model.specs.Class.{class_at, own_of, along, or_else};
-ghost use Rattle.class_model.specs.Numbers.{is_ascending};
+ghost use Rattle.class_table.specs.Below.{ℕ, [], true, length, Some, slice_get, slice_index_or, is_same_name, value_of, names_of, class_at, own_of, along, or_else, is_ascending};
+ghost use Rattle.std.specs.Prelude.{◌≡◌, ◌<◌, ◌≤◌, ◌*◌, ◌-◌, ◌⊎◌, ◌∷◌};
 ghost use Rattle.class_table.specs.Keys.{numbers};
 ghost use Rattle.class_table.specs.Stored.{StoredClass, classes_of};
 ghost use Rattle.class_table.specs.Coherent.{HasLines};

@@ -1,9 +1,7 @@
 //! An attribute of a class that is set.
 
-ghost use Rattle.std.specs.Prelude.{◌≡◌, true, OnOk, OnErr};
-ghost use Rattle.py_node.specs.Attributes.{is_same_name};
-ghost use Rattle.class_model.specs.Class.{is_class};
-ghost use Rattle.class_model.specs.Change.{with_class_attr};
+ghost use Rattle.class_table.specs.Below.{true, OnOk, OnErr, is_same_name, is_class, with_class_attr};
+ghost use Rattle.std.specs.Prelude.{◌≡◌};
 ghost use Rattle.class_table.specs.Stored.{StoredClass, classes_of};
 ghost use Rattle.class_table.specs.Coherent.{IsCoherent};
 

@@ -1,15 +1,7 @@
 //! How a slot is read along a linearisation, and how an attribute is found.
 
-ghost use Rattle.std.specs.Prelude.{◌≡◌, ℕ, true, Option};
-ghost use Rattle.py_node.specs.declared.entry.SlotEntry.{SlotEntry as Entry};
-ghost use Rattle.py_node.specs.declared.entry.SlotId.{SlotId as Slot};
-ghost use Rattle.py_node.specs.Attributes.{is_same_name};
-ghost use Rattle.py_node.specs.Slots.{all_slots, sort_of};
-ghost use Rattle.class_model.specs.Order.{Includes};
-ghost use Rattle.class_model.specs.Class.{class_at, is_class, own_of, along, first_along, past_first};
-ghost use Rattle.class_model.specs.Slot.{entry, slot as slot_read, has_table, first_with, read_along};
-ghost use Rattle.class_model.specs.Numbers.{is_ascending};
-ghost use Rattle.class_model.specs.BuiltIn.{natives_of};
+ghost use Rattle.class_table.specs.Below.{ℕ, true, Option, SlotEntry as Entry, SlotId as Slot, is_same_name, all_slots, sort_of, Includes, class_at, is_class, own_of, along, first_along, past_first, entry, slot as slot_read, has_table, first_with, read_along, is_ascending, natives_of};
+ghost use Rattle.std.specs.Prelude.{◌≡◌};
 ghost use Rattle.class_table.specs.Stored.{classes_of};
 ghost use Rattle.class_table.specs.Keys.{numbers, number_of, table_keys};
 ghost use Rattle.class_table.specs.Coherent.{IsCoherent};

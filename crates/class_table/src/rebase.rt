@@ -1,10 +1,7 @@
 //! Other bases for a class: all or nothing.
 
-ghost use Rattle.std.specs.Prelude.{◌≡◌, ◌*◌, true, length, None, Some, IfOk, OnOk, OnErr, IsSome};
-ghost use Rattle.class_model.specs.Order.{is_distinct};
-ghost use Rattle.class_model.specs.Class.{is_class};
-ghost use Rattle.class_model.specs.Layout.{best_of};
-ghost use Rattle.class_model.specs.Change.{with_bases};
+ghost use Rattle.class_table.specs.Below.{true, length, None, Some, IfOk, OnOk, OnErr, IsSome, is_distinct, is_class, best_of, with_bases};
+ghost use Rattle.std.specs.Prelude.{◌≡◌, ◌*◌};
 ghost use Rattle.class_table.specs.Keys.{numbers, number_of};
 ghost use Rattle.class_table.specs.Stored.{StoredClass, classes_of};
 ghost use Rattle.class_table.specs.Coherent.{IsCoherent};

@@ -1,7 +1,7 @@
 //! Another class for the objects of a class.
 
-ghost use Rattle.std.specs.Prelude.{◌≡◌, true};
-ghost use Rattle.class_model.specs.Class.{is_class};
+ghost use Rattle.class_table.specs.Below.{true, is_class};
+ghost use Rattle.std.specs.Prelude.{◌≡◌};
 ghost use Rattle.class_table.specs.Coherent.{IsCoherent};
 ghost use Rattle.class_table.specs.Rebase.{refused_class};
 ghost use Rattle.class_table.specs.Refused.{cause_of};

@@ -1,9 +1,7 @@
 //! Slots that are found anew after an attribute was set.
 
-ghost use Rattle.std.specs.Prelude.{◌≡◌, ◌<◌, ◌≤◌, length, slice_set, slice_index_or};
-ghost use Rattle.py_node.specs.Slots.{place_of, slot_count};
-ghost use Rattle.class_model.specs.Slot.{is_name_of, entry};
-ghost use Rattle.class_model.specs.BuiltIn.{natives_of};
+ghost use Rattle.class_table.specs.Below.{length, slice_set, slice_index_or, place_of, slot_count, is_name_of, entry, natives_of};
+ghost use Rattle.std.specs.Prelude.{◌≡◌, ◌<◌, ◌≤◌};
 ghost use Rattle.class_table.specs.Stored.{StoredClass, classes_of};
 ghost use Rattle.class_table.specs.Keys.{table_keys};
 ghost use Rattle.class_table.specs.Coherent.{HasLines};

@@ -1,8 +1,7 @@
 //! A class that gets another name.
 
-ghost use Rattle.std.specs.Prelude.{◌≡◌, true, OnOk, OnErr};
-ghost use Rattle.class_model.specs.Class.{is_class};
-ghost use Rattle.class_model.specs.Change.{with_class_name};
+ghost use Rattle.class_table.specs.Below.{true, OnOk, OnErr, is_class, with_class_name};
+ghost use Rattle.std.specs.Prelude.{◌≡◌};
 ghost use Rattle.class_table.specs.Stored.{StoredClass, classes_of};
 ghost use Rattle.class_table.specs.Coherent.{IsCoherent};
 

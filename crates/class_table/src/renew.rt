@@ -1,11 +1,8 @@
 //! What other bases of a class make of what is kept of the classes that they touch: made before anything is changed, then
 //! put in place.
 
-ghost use Rattle.std.specs.Prelude.{◌≡◌, ◌+◌, ◌<◌, ◌++◌, ◌∷◌, [], ℕ, cond, true, nat_lt, filter, length, None, Some, IfOk, OnOk, slice_get, slice_set, slice_index_or};
-ghost use Rattle.class_model.specs.Order.{Includes, Distinct};
-ghost use Rattle.class_model.specs.Class.{is_class, lin, subclasses};
-ghost use Rattle.class_model.specs.Layout.{best_of, base};
-ghost use Rattle.class_model.specs.Numbers.{is_ascending};
+ghost use Rattle.class_table.specs.Below.{[], ℕ, cond, true, nat_lt, filter, length, None, Some, IfOk, OnOk, slice_get, slice_set, slice_index_or, Includes, Distinct, is_class, lin, subclasses, best_of, base, is_ascending};
+ghost use Rattle.std.specs.Prelude.{◌≡◌, ◌+◌, ◌<◌, ◌++◌, ◌∷◌};
 ghost use Rattle.class_table.specs.Keys.{numbers, number_of};
 ghost use Rattle.class_table.specs.Stored.{StoredClass, classes_of};
 ghost use Rattle.class_table.specs.Coherent.{IsCoherent};

@@ -1,10 +1,7 @@
 //! Slots that are found anew after the bases of a class were changed.
 
-ghost use Rattle.std.specs.Prelude.{◌≡◌, ◌<◌, ◌≤◌, ◌*◌, ℕ, true, false, length, Some, slice_get, slice_set, slice_index_or};
-ghost use Rattle.py_node.specs.Slots.{place_of, slot_count};
-ghost use Rattle.class_model.specs.Class.{first_along, is_heap};
-ghost use Rattle.class_model.specs.Slot.{given_entry, entry, entries};
-ghost use Rattle.class_model.specs.BuiltIn.{natives_of};
+ghost use Rattle.class_table.specs.Below.{ℕ, true, false, length, Some, slice_get, slice_set, slice_index_or, place_of, slot_count, first_along, is_heap, given_entry, entry, entries, natives_of};
+ghost use Rattle.std.specs.Prelude.{◌≡◌, ◌<◌, ◌≤◌, ◌*◌};
 ghost use Rattle.class_table.specs.Stored.{StoredClass, class_of, classes_of};
 ghost use Rattle.class_table.specs.Keys.{numbers, table_keys};
 ghost use Rattle.class_table.specs.Coherent.{HasLines};

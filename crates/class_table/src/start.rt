@@ -1,9 +1,7 @@
 //! What a world begins with: the names that it knows, by whose numbers slots are read, and the built-in classes.
 
-ghost use Rattle.std.specs.Prelude.{◌≡◌, map, IfOk};
-ghost use Rattle.py_node.specs.Known.{known_texts};
-ghost use Rattle.py_node.specs.Texts.{AreDistinct};
-ghost use Rattle.class_model.specs.Start.{built_class, built_in_classes};
+ghost use Rattle.class_table.specs.Below.{map, IfOk, known_texts, AreDistinct, built_class, built_in_classes};
+ghost use Rattle.std.specs.Prelude.{◌≡◌};
 ghost use Rattle.class_table.specs.New.{class_of_new};
 ghost use Rattle.class_table.specs.Start.{start_classes};
 

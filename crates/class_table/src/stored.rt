@@ -1,9 +1,7 @@
 //! What the table keeps of a class.
 
-ghost use Rattle.std.specs.Prelude.{◌≡◌, ℕ, List, ◌++◌, ◌∷◌, [], OnOk, OnErr, is_some, slice_set, string_bytes};
-ghost use Rattle.py_node.specs.Attributes.{value_of, with_value, without_key, is_same_name};
-ghost use Rattle.py_node.specs.Slots.{place_of};
-ghost use Rattle.class_model.specs.Order.{has};
+ghost use Rattle.class_table.specs.Below.{ℕ, List, [], OnOk, OnErr, is_some, slice_set, string_bytes, value_of, with_value, without_key, is_same_name, place_of, has};
+ghost use Rattle.std.specs.Prelude.{◌≡◌, ◌++◌, ◌∷◌};
 ghost use Rattle.class_table.specs.Stored.{class_of};
 ghost use Rattle.class_table.specs.Keys.{numbers};
 ghost use Rattle.class_table.specs.Renewed.{renewed_but_line};

@@ -1,10 +1,7 @@
 //! All classes that the table keeps, with their linearisations.
 
-ghost use Rattle.std.specs.Prelude.{◌≡◌, ◌==◌, ◌<◌, ◌++◌, ◌∷◌, [], ℕ, List, true, length, IfErr, IfNone, IfSome, None, OnErr, OnOk, Some, is_some, slice_index_or, slice_set, string_bytes};
-ghost use Rattle.py_node.specs.Attributes.{value_of, with_value, without_key, is_same_name};
-ghost use Rattle.py_node.specs.Slots.{place_of};
-ghost use Rattle.class_model.specs.Class.{class_at};
-ghost use Rattle.class_model.specs.Numbers.{is_ascending};
+ghost use Rattle.class_table.specs.Below.{[], ℕ, List, true, length, IfErr, IfNone, IfSome, None, OnErr, OnOk, Some, is_some, slice_index_or, slice_set, string_bytes, value_of, with_value, without_key, is_same_name, place_of, class_at, is_ascending};
+ghost use Rattle.std.specs.Prelude.{◌≡◌, ◌==◌, ◌<◌, ◌++◌, ◌∷◌};
 ghost use Rattle.class_table.specs.Keys.{numbers};
 ghost use Rattle.class_table.specs.Lines.{with_lines};
 ghost use Rattle.class_table.specs.Renewed.{renewed_but_line};

@@ -1,11 +1,7 @@
 //! A class that is lent, with its linearisation.
 
-ghost use Rattle.std.specs.Prelude.{◌≡◌, Some, option_and_then, length, slice_get};
-ghost use Rattle.py_node.specs.Attributes.{value_of, is_same_name};
-ghost use Rattle.py_node.specs.Slots.{place_of};
-ghost use Rattle.class_model.specs.Order.{has};
-ghost use Rattle.class_model.specs.Class.{is_heap};
-ghost use Rattle.class_model.specs.Dict.{says_dict};
+ghost use Rattle.class_table.specs.Below.{Some, option_and_then, length, slice_get, value_of, is_same_name, place_of, has, is_heap, says_dict};
+ghost use Rattle.std.specs.Prelude.{◌≡◌};
 ghost use Rattle.class_table.specs.Keys.{numbers, number_of};
 ghost use Rattle.class_table.specs.Stored.{class_of};
 

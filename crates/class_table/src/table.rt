@@ -1,19 +1,7 @@
 //! The table of classes.
 
-ghost use Rattle.std.specs.Prelude.{◌≡◌, ◌+◌, ◌*◌, ◌<◌, ◌≤◌, [], true, false, length, Ok, OnOk, OnErr, IfOk, ◌↔◌, IsTrue, Some, is_some, leb, option_map, slice_get, None, IfSome, IsSome};
-ghost use Rattle.std.specs.List.{All};
-ghost use Rattle.py_node.specs.declared.raised.Cause.TheVariants.{EmptyBases, NotBaseType, LayoutConflict, DuplicateBase, LocalPrecedence, MroConflict};
-ghost use Rattle.py_node.specs.Attributes.{is_same_name, AreNamesDistinct};
-ghost use Rattle.class_model.specs.Class.{class_at, is_class, bases_of, lin, IsLeastLine, is_sub, is_heap, own_of, subclasses};
-ghost use Rattle.class_model.specs.Numbers.{limit, numbers_of};
-ghost use Rattle.class_model.specs.Layout.{base, best_of, solid, built_ins, place_count};
-ghost use Rattle.class_model.specs.Chain.{base_chain, IsChain};
-ghost use Rattle.class_model.specs.Dict.{gives_dict, says_dict, has_dict, has_its_dict, heap_class};
-ghost use Rattle.class_model.specs.Collect.{all_attributes};
-ghost use Rattle.class_model.specs.Sound.{AreSound};
-ghost use Rattle.class_model.specs.Slot.{entry, slot as slot_read, is_heap_at};
-ghost use Rattle.class_model.specs.BuiltIn.{natives_of};
-ghost use Rattle.class_model.specs.Change.{with_class, with_class_attr, without_class_attr, with_class_name, with_bases};
+ghost use Rattle.class_table.specs.Below.{[], true, false, length, Ok, OnOk, OnErr, IfOk, IsTrue, Some, is_some, leb, option_map, slice_get, None, IfSome, IsSome, All, EmptyBases, NotBaseType, LayoutConflict, DuplicateBase, LocalPrecedence, MroConflict, is_same_name, AreNamesDistinct, class_at, is_class, bases_of, lin, IsLeastLine, is_sub, is_heap, own_of, subclasses, limit, numbers_of, base, best_of, solid, built_ins, place_count, base_chain, IsChain, gives_dict, says_dict, has_dict, has_its_dict, heap_class, all_attributes, AreSound, entry, slot as slot_read, is_heap_at, natives_of, with_class, with_class_attr, without_class_attr, with_class_name, with_bases};
+ghost use Rattle.std.specs.Prelude.{◌≡◌, ◌+◌, ◌*◌, ◌<◌, ◌≤◌, ◌↔◌};
 ghost use Rattle.class_table.specs.Keys.{numbers, number_of, table_keys, slot_names};
 ghost use Rattle.class_table.specs.Stored.{classes_of};
 ghost use Rattle.class_table.specs.New.{IsBelow, class_of_new};

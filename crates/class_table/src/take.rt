@@ -1,9 +1,7 @@
 //! An attribute of a class that is taken out.
 
-ghost use Rattle.std.specs.Prelude.{◌≡◌, true, false, is_some};
-ghost use Rattle.py_node.specs.Attributes.{is_same_name};
-ghost use Rattle.class_model.specs.Class.{class_at, is_class, own_of};
-ghost use Rattle.class_model.specs.Change.{without_class_attr};
+ghost use Rattle.class_table.specs.Below.{true, false, is_some, is_same_name, class_at, is_class, own_of, without_class_attr};
+ghost use Rattle.std.specs.Prelude.{◌≡◌};
 ghost use Rattle.class_table.specs.Stored.{StoredClass, classes_of};
 ghost use Rattle.class_table.specs.Coherent.{IsCoherent};
 

@@ -1,8 +1,7 @@
 //! The linearisations that other bases of a class would give, before anything is changed.
 
-ghost use Rattle.std.specs.Prelude.{◌≡◌, ℕ, ◌<◌, List, false, true, length, IfOk, None, Some, slice_get};
-ghost use Rattle.class_model.specs.Order.{Includes, Distinct, has};
-ghost use Rattle.class_model.specs.Class.{is_class, bases_of, lin};
+ghost use Rattle.class_table.specs.Below.{ℕ, List, false, true, length, IfOk, None, Some, slice_get, Includes, Distinct, has, is_class, bases_of, lin};
+ghost use Rattle.std.specs.Prelude.{◌≡◌, ◌<◌};
 ghost use Rattle.class_table.specs.Keys.{numbers};
 ghost use Rattle.class_table.specs.Stored.{StoredClass, classes_of};
 ghost use Rattle.class_table.specs.Coherent.{IsCoherent};
@@ -15,13 +14,13 @@ ghost use Rattle.class_table.specs.Trial.{changed, bases_under, trial_at, IsTria
 
 use crate::add::line;
 use crate::descendants::Ranked;
+use crate::mro_merge::MroFault;
+use crate::mro_merge::laws::resolve_mro;
 use crate::place::place;
 use crate::steps::Steps;
 use crate::stored_classes::StoredClasses;
 use crate::stored_ref::StoredRef;
 use crate::trial_map::Trials;
-use mro_merge::MroFault;
-use mro_merge::laws::resolve_mro;
 use py_node::{Cause, OutOfMemory, PyTypeRef};
 use std::alloc::Global;
 use std::sync::ledger::Ledger;

@@ -1,6 +1,7 @@
 //! The trials of other bases, by the places of the classes.
 
-ghost use Rattle.std.specs.Prelude.{◌≡◌, ℕ, List, [], cond, eqb, Some, OnOk, option_copied};
+ghost use Rattle.class_table.specs.Below.{ℕ, List, [], cond, eqb, Some, OnOk, option_copied};
+ghost use Rattle.std.specs.Prelude.{◌≡◌};
 ghost use Rattle.class_table.specs.Trial.{trial_at};
 
 use crate::trial::Trial;

@@ -1,9 +1,6 @@
 -- A class that isn't there has no linearisation.
-use Rattle.std.proofs.Common.{◌≡◌, ℕ, zero, suc, false, List, map, Option, Some, None, is_some, option_and_then, option_map, refl, sym, ap, rules}
-use Rattle.class_model.specs.Order.{all_some, least_order, linear}
-use Rattle.py_node.specs.declared.refs.PyStrInterned.{PyStrInterned}
-use Rattle.py_node.specs.Attributes.{is_same_name}
-use Rattle.class_model.specs.Class.{Classes, class_at, bases_of, is_along, is_class, is_sub, lin, along, found}
+use Rattle.class_view.proofs.Below.{ℕ, zero, suc, false, List, map, Option, Some, None, is_some, option_and_then, option_map, refl, sym, ap, rules, all_some, least_order, linear, PyStrInterned, is_same_name, Classes, class_at, bases_of, is_along, is_class, is_sub, lin, along, found}
+use Rattle.std.proofs.Common.{◌≡◌}
 
 none_of : {A : Type 0} (o : Option A) → is_some o ≡ false → o ≡ None
 none_of None e = refl

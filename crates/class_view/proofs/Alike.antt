@@ -1,10 +1,6 @@
 -- Lists that are compared place by place.
-use Rattle.std.proofs.Common.{◌≡◌, ℕ, ◌+◌, ◌<◌, ◌≤◌, List, ◌++◌, map, length, take, drop, get_or, Some, slice_get, sym, ap, ◌∙◌, subst, arith, take-append-drop}
-use Rattle.std.proofs.lemmas.List.{take_all, take_more_same, length-map, get_or-map}
-use Rattle.std.proofs.lemmas.Option.{get_or_from_slice_get, slice_get_within}
-use Rattle.class_log.specs.declared.change.ClassChange.{ClassChange}
-use Rattle.class_log.specs.Change.{Change, change_of}
-use Rattle.class_log.specs.Following.{BeginsWith}
+use Rattle.class_view.proofs.Below.{ℕ, List, map, length, take, drop, get_or, Some, slice_get, sym, ap, ◌∙◌, subst, arith, take-append-drop, take_all, take_more_same, length-map, get_or-map, get_or_from_slice_get, slice_get_within, ClassChange, Change, change_of, BeginsWith}
+use Rattle.std.proofs.Common.{◌≡◌, ◌+◌, ◌<◌, ◌≤◌, ◌++◌}
 
 -- one place further, of lists that are read by places
 pub further : {A : Type 0} (a b : List A) (i : ℕ) (x : A) → slice_get a i ≡ Some x → slice_get b i ≡ Some x → take i a ≡ take i b → take (i + 1) a ≡ take (i + 1) b

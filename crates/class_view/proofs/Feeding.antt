@@ -1,14 +1,6 @@
 -- Lists of changes on their way to the publisher.
-use Rattle.std.proofs.Common.{◌≡◌, ℕ, suc, ◌+◌, ◌<◌, ◌≤◌, List, [], ◌∷◌, ◌++◌, map, length, drop, get_or, add-one, Result, Ok, Err, MatchResult, OnOk, OnErr, fold, append-nil, sym, ap, ◌∙◌, subst, arith, append_assoc, length-append}
-use Rattle.std.proofs.lemmas.Grind.{common_steps}
-use Rattle.std.proofs.lemmas.List.{length-map, get_or-map}
-use Rattle.std.proofs.Math.Seq.{drop-cons}
-use Rattle.class_log.specs.declared.change.ClassChange.{ClassChange}
-use Rattle.class_log.specs.Change.{Change, change_of}
-use Rattle.class_log.specs.Following.{BeginsWith}
-use Rattle.class_view.specs.declared.rule.View.{View}
-use Rattle.class_view.specs.Rule.{Shows}
-use Rattle.class_view.specs.Posted.{Posted, posted}
+use Rattle.class_view.proofs.Below.{ℕ, suc, List, [], map, length, drop, get_or, add-one, Result, Ok, Err, MatchResult, OnOk, OnErr, fold, append-nil, sym, ap, ◌∙◌, subst, arith, append_assoc, length-append, common_steps, length-map, get_or-map, drop-cons, ClassChange, Change, change_of, BeginsWith, View, Shows, Posted, posted}
+use Rattle.std.proofs.Common.{◌≡◌, ◌+◌, ◌<◌, ◌≤◌, ◌∷◌, ◌++◌}
 use Rattle.class_view.proofs.Keeping.{fold_adds, begins_self}
 
 drop_longer : (n : ℕ) (xs ys : List Change) → n ≤ length xs → drop n (xs ++ ys) ≡ drop n xs ++ ys

@@ -1,13 +1,8 @@
 -- A step that only adds to the published list keeps the rule.
-use Rattle.std.proofs.Common.{◌≡◌, ℕ, ◌≢◌, List, [], ◌∷◌, ◌++◌, fold, set, refl, sym, ap, ◌∙◌, subst, ⊎_elim, append_assoc, append-nil, rules}
+use Rattle.class_view.proofs.Below.{ℕ, List, [], fold, set, refl, sym, ap, ◌∙◌, subst, ⊎_elim, append_assoc, append-nil, rules, Admits, TurnsAt, Forks, Merges, at_set, at_snoc, Change, View, BeginsWith, Keeps, Shows, newcomer}
+use Rattle.std.proofs.Common.{◌≡◌, ◌≢◌, ◌∷◌, ◌++◌}
 use mathlib.Core.Option.{some}
 use lib.ListN.{get_elem?}
-use Rattle.left_right.specs.Register.{Admits, TurnsAt, Forks, Merges}
-use Rattle.atomic_table.proofs.Lists.{at_set, at_snoc}
-use Rattle.class_log.specs.Change.{Change}
-use Rattle.class_view.specs.declared.rule.View.{View}
-use Rattle.class_log.specs.Following.{BeginsWith}
-use Rattle.class_view.specs.Rule.{Keeps, Shows, newcomer}
 
 pub begins_self : {A : Type 0} (xs : List A) → BeginsWith xs xs
 begins_self xs = ([], append-nil xs)

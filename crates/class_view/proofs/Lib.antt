@@ -1,3 +1,5 @@
+pub mod Lemmas
+pub mod Below
 pub mod Keeping
 pub mod Looking
 pub mod Feeding

@@ -1,12 +1,6 @@
 -- What a look through a reader comes to.
-use Rattle.std.proofs.Common.{◌≡◌, List, sym, subst, Option, Some, Result, Ok, Err, IfOk}
-use Rattle.left_right.specs.Sides.{view}
-use Rattle.left_right.specs.declared.reader.Reader.{Reader}
-use Rattle.class_log.specs.Change.{Change}
-use Rattle.class_view.specs.declared.rule.View.{View}
-use Rattle.class_log.specs.Following.{BeginsWith}
-use Rattle.class_view.specs.Lists.{Follows}
-use Rattle.class_view.specs.Known.{knows_of}
+use Rattle.class_view.proofs.Below.{List, sym, subst, Option, Some, Result, Ok, Err, IfOk, view, Reader, Change, View, BeginsWith, Follows, knows_of}
+use Rattle.std.proofs.Common.{◌≡◌}
 use Rattle.class_view.proofs.Keeping.{begins_self, begins_more}
 
 follows : {P A : Type 0} (home : Option (Reader (List Change) View P A)) (r : Reader (List Change) View P A) (list : List Change) → home ≡ Some r → BeginsWith (view r.place).seen list → Follows (knows_of home) list

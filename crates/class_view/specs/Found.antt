@@ -1,5 +1,6 @@
 -- When a reader says that it is gone.
-use Rattle.std.specs.Prelude.{ℕ, ◌<◌, Result, Ok, Err}
+use Rattle.class_view.specs.Below.{ℕ, Result, Ok, Err}
+use Rattle.std.specs.Prelude.{◌<◌}
 use Rattle.class_view.specs.declared.reader.ReaderFault.{ReaderFault}
 use Rattle.class_view.specs.declared.reader.ReaderFault.TheVariants as fault
 

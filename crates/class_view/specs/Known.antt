@@ -1,9 +1,5 @@
 -- What a reader knows of the published list.
-use Rattle.std.specs.Prelude.{List, Option, Some, None}
-use Rattle.left_right.specs.Sides.{view}
-use Rattle.left_right.specs.declared.reader.Reader.{Reader}
-use Rattle.class_log.specs.Change.{Change}
-use Rattle.class_log.specs.Following.{BeginsWith}
+use Rattle.class_view.specs.Below.{List, Option, Some, None, view, Reader, Change, BeginsWith}
 use Rattle.class_view.specs.declared.rule.View.{View}
 
 -- a reader knows what begins the list that it saw last. With none, nothing is lent

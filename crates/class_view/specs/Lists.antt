@@ -1,7 +1,5 @@
 -- Lists that begin with others.
-use Rattle.std.specs.Prelude.{List}
-use Rattle.class_log.specs.Change.{Change}
-use Rattle.class_log.specs.Following.{BeginsWith}
+use Rattle.class_view.specs.Below.{List, Change, BeginsWith}
 
 -- the list begins with all that was known
 abbrev pub Follows : (List Change → Type 0) → List Change → Type 0

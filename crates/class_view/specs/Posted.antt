@@ -1,6 +1,5 @@
 -- A writer as contracts see it.
-use Rattle.std.specs.Prelude.{List, [], Option, Some, None}
-use Rattle.class_log.specs.Change.{Change}
+use Rattle.class_view.specs.Below.{List, [], Option, Some, None, Change}
 
 -- all its changes, of which a beginning is published and the rest is pending
 pub record Posted : Type 0 where

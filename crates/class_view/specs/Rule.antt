@@ -1,9 +1,8 @@
 -- What the rule over the published list says, and what a step tells.
-use Rattle.std.specs.Prelude.{◌≡◌, ℕ, List, []}
+use Rattle.class_view.specs.Below.{ℕ, List, [], Change, BeginsWith}
+use Rattle.std.specs.Prelude.{◌≡◌}
 use mathlib.Core.Option.{some}
 use lib.ListN.{get_elem?}
-use Rattle.class_log.specs.Change.{Change}
-use Rattle.class_log.specs.Following.{BeginsWith}
 use Rattle.class_view.specs.declared.rule.View.{View}
 
 -- the published list begins with what each has seen

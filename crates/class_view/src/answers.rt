@@ -1,9 +1,7 @@
 //! What a reader asks of the classes that it is lent.
 
-ghost use Rattle.std.specs.Prelude.{◌≡◌, IfOk, option_map};
-ghost use Rattle.py_node.specs.Attributes.{is_same_name};
-ghost use Rattle.class_model.specs.Class.{found, lin, is_sub};
-ghost use Rattle.class_table.specs.Keys.{numbers};
+ghost use Rattle.class_view.specs.Below.{IfOk, option_map, is_same_name, found, lin, is_sub, numbers};
+ghost use Rattle.std.specs.Prelude.{◌≡◌};
 
 use class_table::ClassTable;
 use py_node::{OutOfMemory, PyObjectRef, PyStrInterned, PyTypeRef};

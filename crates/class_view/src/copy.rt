@@ -1,9 +1,9 @@
 //! A copy of the classes, which takes in changes, and a change on its way to it.
 
-ghost use Rattle.std.specs.Prelude.{◌≡◌, IfOk};
-ghost use Rattle.class_log.specs.Change.{change_of};
+ghost use Rattle.class_view.specs.Below.{IfOk, change_of};
+ghost use Rattle.std.specs.Prelude.{◌≡◌};
 
-use class_log::{ClassChange, Replica};
+use class_table::class_log::{ClassChange, Replica};
 use left_right::Absorb;
 use py_node::OutOfMemory;
 use std::alloc::{AllocError, Global};
@@ -16,7 +16,7 @@ pub struct Posting {
 }
 
 impl Model for Posting {
-    ghost use Rattle.class_log.specs.Change.{Change, change_of};
+    ghost use Rattle.class_table.specs.ClassLog.Change.{Change, change_of};
 
     ghost Value = { Change };
 

@@ -1,9 +1,7 @@
 //! What lends published classes to a reader.
 
-ghost use Rattle.std.specs.Prelude.{◌≡◌, ℕ, ◌<◌, ◌≤◌, List, IfOk, OnErr};
-ghost use Rattle.std.specs.Fn.{FnOnceReturnsAt};
-ghost use Rattle.class_log.specs.Change.{Change};
-ghost use Rattle.class_log.specs.Shown.{shown};
+ghost use Rattle.class_view.specs.Below.{ℕ, List, IfOk, OnErr, FnOnceReturnsAt, Change, shown};
+ghost use Rattle.std.specs.Prelude.{◌≡◌, ◌<◌, ◌≤◌};
 ghost use Rattle.class_view.specs.Lists.{Follows, IsKept};
 
 use class_table::ClassTable;

@@ -3,8 +3,8 @@
 ghost use Rattle.std.specs.Prelude.{◌≡◌};
 
 use crate::pane::{Failed, Pane};
-use class_log::Replica;
 use class_table::ClassTable;
+use class_table::class_log::Replica;
 
 /// A pane over one replica, whose classes it lends. It never fails.
 #[derive(Drop)]
@@ -22,7 +22,7 @@ impl PlainPane {
 }
 
 impl Pane for PlainPane {
-    ghost use Rattle.class_log.specs.Following.{BeginsWith};
+    ghost use Rattle.class_table.specs.ClassLog.Following.{BeginsWith};
 
     ghost knows = { λ p list. BeginsWith list p.replica };
 

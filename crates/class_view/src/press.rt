@@ -1,19 +1,13 @@
 //! What publishes: a replica, of which a beginning is published.
 
-ghost use Rattle.std.specs.Prelude.{◌≡◌, ◌<◌, ◌≤◌, ◌^◌, ◌++◌, ◌∷◌, ◌+◌, [], length, drop, map, IsTrue, IfOk, OnOk, OnErr, MatchResult};
-ghost use Rattle.left_right.specs.Sides.{view as known_of};
-ghost use Rattle.class_table.specs.Rebase.{told};
-ghost use Rattle.class_table.specs.Refused.{WithMemory};
-ghost use Rattle.class_log.specs.Change.{change_of};
-ghost use Rattle.class_log.specs.Shown.{shown};
-ghost use Rattle.class_log.specs.Refused.{IsFit, refused};
-ghost use Rattle.class_log.specs.Following.{BeginsWith, CanFollow};
+ghost use Rattle.class_view.specs.Below.{[], length, drop, map, IsTrue, IfOk, OnOk, OnErr, MatchResult, view as known_of, told, WithMemory, change_of, shown, IsFit, refused, BeginsWith, CanFollow};
+ghost use Rattle.std.specs.Prelude.{◌≡◌, ◌<◌, ◌≤◌, ◌^◌, ◌++◌, ◌∷◌, ◌+◌};
 
 use crate::copy::Posting;
 use crate::rule::{Looker, Notes, Publisher, Sees};
 use crate::writer::Told;
-use class_log::{ClassChange, Replica};
 use class_table::ClassFault;
+use class_table::class_log::{ClassChange, Replica};
 use left_right::writer::Writer;
 use py_node::OutOfMemory;
 use std::alloc::{AllocError, Global};

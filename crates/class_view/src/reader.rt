@@ -1,12 +1,7 @@
 //! A reader over any pane.
 
-ghost use Rattle.std.specs.Prelude.{◌≡◌, ◌<◌, ◌≤◌, List, IfOk, OnErr, option_map, is_some};
-ghost use Rattle.left_right.specs.Sides.{view};
-ghost use Rattle.py_node.specs.Attributes.{is_same_name};
-ghost use Rattle.class_model.specs.Class.{found, is_sub, lin};
-ghost use Rattle.class_table.specs.Keys.{numbers};
-ghost use Rattle.class_log.specs.Change.{Change};
-ghost use Rattle.class_log.specs.Shown.{shown};
+ghost use Rattle.class_view.specs.Below.{List, IfOk, OnErr, option_map, is_some, view, is_same_name, found, is_sub, lin, numbers, Change, shown};
+ghost use Rattle.std.specs.Prelude.{◌≡◌, ◌<◌, ◌≤◌};
 ghost use Rattle.class_view.specs.Found.{IsGone};
 ghost use Rattle.class_view.specs.Lists.{Follows, IsKept};
 ghost use Rattle.class_view.specs.Known.{knows_of};

@@ -2,7 +2,7 @@
 
 use crate::copy::Posting;
 use atomic_table::{Join, Split};
-use class_log::Replica;
+use class_table::class_log::Replica;
 use crossbeam_utils::rule::{Outcome, Protocol};
 use left_right::reader::Reader;
 use left_right::writer::Writer;

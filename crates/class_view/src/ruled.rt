@@ -1,10 +1,7 @@
 //! A pane over the reader of what is published.
 
-ghost use Rattle.std.specs.Prelude.{◌≡◌, ◌≤◌, List, IfOk, OnErr, IfSome, is_some};
-ghost use Rattle.std.specs.Fn.{FnOnceReturnsAt};
-ghost use Rattle.left_right.specs.Sides.{view};
-ghost use Rattle.class_log.specs.Shown.{shown};
-ghost use Rattle.class_log.specs.Following.{BeginsWith};
+ghost use Rattle.class_view.specs.Below.{List, IfOk, OnErr, IfSome, is_some, FnOnceReturnsAt, view, shown, BeginsWith};
+ghost use Rattle.std.specs.Prelude.{◌≡◌, ◌≤◌};
 ghost use Rattle.class_view.specs.Lists.{IsKept};
 ghost use Rattle.class_view.specs.Known.{knows_of};
 

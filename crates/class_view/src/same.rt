@@ -1,11 +1,9 @@
 //! Whether two changes are the same, and whether a list of changes begins with another.
 
-ghost use Rattle.std.specs.Prelude.{◌≡◌, IsTrue, map};
-ghost use Rattle.class_table.specs.Keys.{numbers, slot_names};
-ghost use Rattle.class_log.specs.Change.{change_of, made_of, Make, SetOwn, DelOwn, SetBases};
-ghost use Rattle.class_log.specs.Following.{BeginsWith};
+ghost use Rattle.class_view.specs.Below.{IsTrue, map, numbers, slot_names, change_of, made_of, Make, SetOwn, DelOwn, SetBases, BeginsWith};
+ghost use Rattle.std.specs.Prelude.{◌≡◌};
 
-use class_log::{ClassChange, Replica};
+use class_table::class_log::{ClassChange, Replica};
 use py_node::{PyAttributes, PyObjectRef, PyStrInterned, PyTypeFlags, PyTypeRef};
 
 fn is_same_name(a: PyStrInterned, b: PyStrInterned) -> bool

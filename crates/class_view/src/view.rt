@@ -1,6 +1,7 @@
 //! A writer with its readers.
 
-ghost use Rattle.std.specs.Prelude.{◌≡◌, ◌<◌, ◌^◌, [], vec_len, IfOk, OnOk};
+ghost use Rattle.class_view.specs.Below.{[], vec_len, IfOk, OnOk};
+ghost use Rattle.std.specs.Prelude.{◌≡◌, ◌<◌, ◌^◌};
 
 use crate::faults::Faults;
 use crate::reader::ClassReader;

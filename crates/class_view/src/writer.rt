@@ -1,17 +1,11 @@
 //! The writer.
 
-ghost use Rattle.std.specs.Prelude.{◌≡◌, ◌<◌, ◌+◌, ◌^◌, ◌++◌, ◌∷◌, ◌↔◌, [], length, map, IsTrue, IfOk, OnOk, OnErr};
-ghost use Rattle.left_right.specs.Sides.{view as known_of};
-ghost use Rattle.class_table.specs.Rebase.{told};
-ghost use Rattle.class_table.specs.Refused.{WithMemory};
-ghost use Rattle.class_log.specs.Change.{change_of};
-ghost use Rattle.class_log.specs.Shown.{shown};
-ghost use Rattle.class_log.specs.Refused.{IsFit, refused};
-ghost use Rattle.class_log.specs.Following.{BeginsWith, CanFollow};
+ghost use Rattle.class_view.specs.Below.{[], length, map, IsTrue, IfOk, OnOk, OnErr, view as known_of, told, WithMemory, change_of, shown, IsFit, refused, BeginsWith, CanFollow};
+ghost use Rattle.std.specs.Prelude.{◌≡◌, ◌<◌, ◌+◌, ◌^◌, ◌++◌, ◌∷◌, ◌↔◌};
 
 use crate::press::Press;
 use crate::rule::Looker;
-use class_log::{ClassChange, Replica};
+use class_table::class_log::{ClassChange, Replica};
 use class_table::{ClassFault, ClassTable};
 use py_node::OutOfMemory;
 use std::alloc::Global;

@@ -1,24 +1,10 @@
 -- Objects that are put into a world with their dicts.
-use Rattle.std.proofs.Common.{◌≡◌, suc, ◌+◌, cond, List, [], ◌∷◌, ◌++◌, length, map, Option, Some, None, Result, Ok, Err, IfOk, IfSome, OnOk, OnErr, refl, sym, ap, ◌∙◌, subst, arith, length-append}
-use Rattle.std.specs.Prelude.{◌&&◌, true, is_some, is_none, option_map}
-use Rattle.std.proofs.lemmas.List.{length-map}
-use Rattle.py_node.specs.declared.refs.PyObjectRef.{PyObjectRef}
-use Rattle.py_node.specs.declared.refs.PyTypeRef.{PyTypeRef}
-use Rattle.py_node.specs.declared.built_in.BuiltIn.TheVariants.{Dict}
-use Rattle.py_node.specs.declared.payload.Node.{Node}
-use Rattle.py_node.specs.declared.payload.Payload.{Payload}
+use Rattle.class_world.proofs.Below.{suc, cond, List, [], length, map, Option, Some, None, Result, Ok, Err, IfOk, IfSome, OnOk, OnErr, refl, sym, ap, ◌∙◌, subst, arith, length-append, is_some, is_none, option_map, length-map, PyObjectRef, PyTypeRef, Dict, Node, Payload, PlainDict, the_dict, ADict, no_members, PyStrInterned, Classes, has_dict, ref, push_node, with_node, next_node, Held, AreEmpty, with_object, number_of_object, HasNoEntries, IsEmptyDict, Reading, datum, node_of, plain, IsNode, IsClass, IsOf, AreMembers, Holding, GetsDict, Holds, AllHold, Grows, SoundWith, Sound, home_of, home_at, class_in, of_node, of_option, of_payload}
+use Rattle.std.proofs.Common.{◌≡◌, ◌+◌, ◌∷◌, ◌++◌}
+use Rattle.std.specs.Prelude.{◌&&◌, true}
 use Rattle.py_node.specs.declared.payload.Payload.TheVariants as payload
-use Rattle.py_node.specs.Dicts.{PlainDict}
-use Rattle.plain_machine.specs.Known.{the_dict}
-use Rattle.plain_machine.specs.Plain.{ADict, no_members, Node as PlainNode}
-use Rattle.py_node.specs.declared.refs.PyStrInterned.{PyStrInterned}
-use Rattle.class_model.specs.Class.{Classes}
-use Rattle.class_model.specs.Dict.{has_dict}
-use Rattle.plain_machine.specs.World.{ref, has_dict as plain_has_dict, push_node, with_node, next_node}
-use Rattle.class_world.specs.Held.{Held}
-use Rattle.class_world.specs.Added.{AreEmpty, with_object, number_of_object, HasNoEntries, IsEmptyDict}
-use Rattle.class_world.specs.Reading.{Reading, datum, node_of, plain}
-use Rattle.class_world.specs.Sound.{IsNode, IsClass, IsOf, AreMembers, Holding, GetsDict, Holds, AllHold, Grows, SoundWith, Sound, home_of, home_at, class_in, of_node, of_option, of_payload}
+use Rattle.plain_machine.specs.Plain.{Node as PlainNode}
+use Rattle.plain_machine.specs.World.{has_dict as plain_has_dict}
 use Rattle.class_world.proofs.Claims.{all-grow, get-end}
 use Rattle.class_world.proofs.Growth.{grows-itself, grows-on, node-grows}
 use Rattle.class_world.proofs.Changes.{node-sound}

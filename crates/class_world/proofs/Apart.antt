@@ -1,18 +1,6 @@
 -- Variables whose names are distinct and parameters that have values, and that both stay so.
-use Rattle.std.proofs.Common.{◌≡◌, ℕ, zero, suc, Bool, true, false, cond, List, [], ◌∷◌, ◌++◌, Option, Some, None, refl, ◌∙◌, arith, get_or, take}
-use Rattle.std.specs.Prelude.{is_some}
-use Rattle.std.specs.List.{All, AllByRecursion, IsDistinct}
-use Rattle.std.specs.Map.{keys_of}
-use Rattle.py_node.specs.declared.refs.PyObjectRef.{PyObjectRef}
-use Rattle.py_node.specs.declared.refs.PyStrInterned.{PyStrInterned}
-use Rattle.py_node.specs.Attributes.{value_of, with_value, is_same_name, AreNamesDistinct}
-use Rattle.plain_machine.specs.World.{is_text}
-use Rattle.plain_machine.specs.Sound.{AreApart}
-use Rattle.class_world.specs.declared.scope.Scope.{Scope}
-use Rattle.class_world.specs.Bound.{bound_vars, bound_scopes}
-use Rattle.class_world.specs.Held.{Held}
-use Rattle.class_world.specs.Reading.{Reading, bindings, spelled}
-use Rattle.class_world.specs.Sound.{HasValues, Holds, held_params, has_value, AreFilled}
+use Rattle.class_world.proofs.Below.{ℕ, zero, suc, Bool, true, false, cond, List, [], Option, Some, None, refl, ◌∙◌, arith, get_or, take, is_some, All, AllByRecursion, IsDistinct, keys_of, PyObjectRef, PyStrInterned, value_of, with_value, is_same_name, AreNamesDistinct, is_text, AreApart, Scope, bound_vars, bound_scopes, Held, Reading, bindings, spelled, HasValues, Holds, held_params, has_value, AreFilled}
+use Rattle.std.proofs.Common.{◌≡◌, ◌∷◌, ◌++◌}
 
 abbrev Bound : Type 0
 Bound = List (PyStrInterned × PyObjectRef)

@@ -1,17 +1,6 @@
 -- The attributes of classes, as a reading has them, and what holds of them.
-use Rattle.std.proofs.Common.{◌≡◌, ℕ, ◌^◌, true, false, cond, eqb, List, [], ◌∷◌, Option, Some, None, Result, refl, sym, ap, ◌∙◌, subst, IfOk}
-use Rattle.std.specs.Prelude.{option_map}
-use Rattle.py_node.specs.declared.refs.PyObjectRef.{PyObjectRef}
-use Rattle.py_node.specs.declared.refs.PyStrInterned.{PyStrInterned}
-use Rattle.py_node.specs.Attributes.{with_value, is_same_name}
-use Rattle.py_node.specs.Tree.{Text}
-use Rattle.class_model.specs.Class.{Class, Classes, class_at, lin, has_flag, renamed}
-use Rattle.class_model.specs.Collect.{with_values, attrs_of, attributes_along, all_attributes}
-use Rattle.class_model.proofs.Renamed.{at-renamed, lin-renamed}
-use Rattle.plain_machine.specs.World.{is_text}
-use Rattle.class_world.specs.Held.{Held}
-use Rattle.class_world.specs.Reading.{Reading, Reads, spelled, bindings, plain}
-use Rattle.class_world.specs.Sound.{AllHold, Sound, of_binding, of_class, of_dict, of_each}
+use Rattle.class_world.proofs.Below.{ℕ, true, false, cond, eqb, List, [], Option, Some, None, Result, refl, sym, ap, ◌∙◌, subst, IfOk, option_map, PyObjectRef, PyStrInterned, with_value, is_same_name, Text, Class, Classes, class_at, lin, has_flag, renamed, with_values, attrs_of, attributes_along, all_attributes, at-renamed, lin-renamed, is_text, Held, Reading, Reads, spelled, bindings, plain, AllHold, Sound, of_binding, of_class, of_dict, of_each}
+use Rattle.std.proofs.Common.{◌≡◌, ◌^◌, ◌∷◌}
 use Rattle.class_world.proofs.Claims.{all-first, all-rest}
 use Rattle.class_world.proofs.Bound.{with_value-read, with_value-holds}
 use Rattle.class_world.proofs.OfClasses.{class-seen}

@@ -1,14 +1,6 @@
 -- The function whose body runs, as a reading has it, and that it is an object.
-use Rattle.std.proofs.Common.{◌≡◌, ℕ, zero, suc, List, [], ◌∷◌, length, Some, refl, arith, get_or, map, IfSome}
-use Rattle.std.proofs.Common.{subst}
-use Rattle.py_node.specs.declared.refs.PyStrInterned.{PyStrInterned}
-use Rattle.plain_machine.specs.Running.{running}
-use Rattle.plain_machine.specs.World.{in_last}
-use Rattle.class_world.specs.Bound.{last_function, last_value}
-use Rattle.class_world.specs.declared.scope.Scope.{Scope}
-use Rattle.class_world.specs.Held.{Held}
-use Rattle.class_world.specs.Reading.{Reading, plain, scope_of}
-use Rattle.class_world.specs.Sound.{IsNode, Holds, AllHold, Sound, of_scope, of_each}
+use Rattle.class_world.proofs.Below.{ℕ, zero, suc, List, [], length, Some, refl, arith, get_or, map, IfSome, subst, PyStrInterned, running, in_last, last_function, last_value, Scope, Held, Reading, plain, scope_of, IsNode, Holds, AllHold, Sound, of_scope, of_each}
+use Rattle.std.proofs.Common.{◌≡◌, ◌∷◌}
 use Rattle.class_world.proofs.Claims.{all-first, all-rest}
 use Rattle.class_world.proofs.Bound.{last-holds, last-read}
 

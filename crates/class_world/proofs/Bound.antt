@@ -1,16 +1,7 @@
 -- Variables and scopes, as a reading has them, and what holds of them.
-use Rattle.std.proofs.Common.{◌≡◌, ℕ, zero, suc, ◌-◌, Bool, true, false, cond, List, [], ◌∷◌, ◌++◌, length, Option, Some, None, Result, Ok, Err, OnOk, OnErr, refl, sym, ap, ◌∙◌, subst, arith, get_or, set, take, map, IfSome}
-use Rattle.py_node.specs.declared.refs.PyObjectRef.{PyObjectRef}
-use Rattle.py_node.specs.declared.refs.PyStrInterned.{PyStrInterned}
-use Rattle.std.specs.List.{All}
-use Rattle.py_node.specs.Attributes.{value_of, with_value, without_key, is_same_name, AreNamesDistinct}
-use Rattle.py_node.specs.Replies.{Started}
-use Rattle.plain_machine.specs.World.{is_text, or_else_var, bound, bound_last, in_last, variable, with_binding, with_scope, without_scope}
-use Rattle.class_world.specs.declared.scope.Scope.{Scope}
-use Rattle.class_world.specs.Held.{Held}
-use Rattle.class_world.specs.Reading.{Reading, spelled, bindings, scope_of, plain}
-use Rattle.class_world.specs.Sound.{IsName, IsNode, Holds, AllHold, Lasts, Grows, Sound, of_binding, of_scope, of_each}
-use Rattle.class_world.specs.Bound.{last_value, value_in, bound_vars, bound_scopes}
+use Rattle.class_world.proofs.Below.{ℕ, zero, suc, Bool, true, false, cond, List, [], length, Option, Some, None, Result, Ok, Err, OnOk, OnErr, refl, sym, ap, ◌∙◌, subst, arith, get_or, set, take, map, IfSome, PyObjectRef, PyStrInterned, All, value_of, with_value, without_key, is_same_name, AreNamesDistinct, Started, is_text, or_else_var, bound, bound_last, in_last, variable, with_binding, with_scope, without_scope, Scope, Held, Reading, spelled, bindings, scope_of, plain, IsName, IsNode, Holds, AllHold, Lasts, Grows, Sound, of_binding, of_scope, of_each, last_value, bound_vars, bound_scopes}
+use Rattle.std.proofs.Common.{◌≡◌, ◌-◌, ◌∷◌, ◌++◌}
+use Rattle.class_world.specs.Bound.{value_in}
 use Rattle.class_world.proofs.Claims.{all-last, all-append, all-first, all-rest}
 use Rattle.class_world.proofs.Growth.{same-lasts}
 use Rattle.class_world.proofs.Changes.{fixed-grow, built_in-grow}

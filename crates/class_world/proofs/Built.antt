@@ -1,20 +1,9 @@
 -- The fixed objects and the built-in classes are there.
-use Rattle.std.proofs.Common.{◌≡◌, ℕ, true, false, ◌<◌, length, Some, None, refl, sym, ap, subst, ◌∙◌, arith, lit<}
-use Rattle.std.specs.Prelude.{slice_get}
-use Rattle.py_node.specs.declared.refs.PyObjectRef.{PyObjectRef}
-use Rattle.py_node.specs.declared.built_in.BuiltIn.{BuiltIn}
-use Rattle.py_node.specs.declared.refs.PyTypeRef.{PyTypeRef}
-use Rattle.py_node.specs.BuiltIns.{place_of, flags_of, built_in_flags, all_built_ins}
-use Rattle.plain_machine.specs.Sound.{holds_as}
-use Rattle.class_model.specs.Class.{is_class}
-use Rattle.class_model.specs.Dict.{has_dict}
-use Rattle.class_world.specs.Held.{Held}
-use Rattle.class_world.specs.Sound.{IsNode, IsClass, IsOf, GetsDict, Holds, Sound}
+use Rattle.class_world.proofs.Below.{ℕ, true, false, length, Some, None, refl, sym, ap, subst, ◌∙◌, arith, lit<, slice_get, PyObjectRef, BuiltIn, PyTypeRef, place_of, flags_of, built_in_flags, all_built_ins, holds_as, is_class, has_dict, Held, IsNode, IsClass, IsOf, GetsDict, Holds, Sound, Fixed, number_of_fixed}
+use Rattle.std.proofs.Common.{◌≡◌, ◌<◌}
 use Rattle.class_world.proofs.Growth.{says, says-dict}
-use Rattle.class_world.specs.declared.built_ins.Fixed.{Fixed}
 use Rattle.class_world.specs.declared.built_ins.Fixed.TheVariants as fixed
 use Rattle.py_node.specs.declared.built_in.BuiltIn.TheVariants as built_in
-use Rattle.class_world.specs.Fixed.{number_of_fixed}
 
 fixed-low : (o : Fixed) → number_of_fixed o < 27
 fixed-low fixed.None = lit< tt

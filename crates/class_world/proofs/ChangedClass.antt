@@ -1,22 +1,7 @@
 -- One class that is changed, and keeps its number, its bases and its members.
-use Rattle.std.proofs.Common.{◌≡◌, ℕ, ◌^◌, true, false, cond, eqb, List, [], ◌∷◌, Some, Result, Ok, Err, OnOk, OnErr, IfOk, refl, sym, ap, ◌∙◌, subst}
-use Rattle.std.specs.Prelude.{Bool, is_some, option_map}
-use Rattle.py_node.specs.declared.refs.PyStrInterned.{PyStrInterned}
-use Rattle.py_node.specs.Attributes.{without_key, is_same_name}
-use Rattle.py_node.specs.Tree.{Text}
-use Rattle.class_model.specs.Class.{Class, Classes, class_at, own_of, has_flag, rekeyed, renamed}
-use Rattle.class_model.specs.Change.{with_changed, without_class_attr, with_class_name}
-use Rattle.class_model.proofs.Numbers.{at-changed}
-use Rattle.class_model.proofs.Kept.{is_class-kept, lin-kept, member_count-kept}
-use Rattle.class_model.proofs.PlaceOffsets.{layout-same}
-use Rattle.plain_machine.specs.World.{is_text}
-use Rattle.plain_machine.specs.Change.{SetName, apply, without_own_attr}
-use Rattle.plain_machine.proofs.Offsets.{offset-kept}
-use Rattle.class_log.specs.Change.{Change}
-use Rattle.class_log.specs.Following.{Keeps}
-use Rattle.class_world.specs.Held.{Held}
-use Rattle.class_world.specs.Reading.{Reading, Reads, spelled, plain}
-use Rattle.class_world.specs.Sound.{AllHold, SoundWith, Sound, of_binding, of_class, of_dict, of_each, of_node}
+use Rattle.class_world.proofs.Below.{ℕ, true, false, cond, eqb, List, [], Some, Result, Ok, Err, OnOk, OnErr, IfOk, refl, sym, ap, ◌∙◌, subst, is_some, option_map, PyStrInterned, without_key, is_same_name, Text, Class, Classes, class_at, own_of, has_flag, rekeyed, renamed, with_changed, without_class_attr, with_class_name, at-changed, is_class-kept, lin-kept, member_count-kept, layout-same, is_text, SetName, apply, without_own_attr, offset-kept, Change, Keeps, Held, Reading, Reads, spelled, plain, AllHold, SoundWith, Sound, of_binding, of_class, of_dict, of_each, of_node}
+use Rattle.std.proofs.Common.{◌≡◌, ◌^◌, ◌∷◌}
+use Rattle.std.specs.Prelude.{Bool}
 use Rattle.class_world.proofs.Claims.{all-append, all-first, all-rest}
 use Rattle.class_world.proofs.Homes.{by_line}
 use Rattle.class_world.proofs.Growth.{Like, like-itself}

@@ -1,15 +1,7 @@
 -- Each change of a world keeps it sound.
-use Rattle.std.proofs.Common.{◌≡◌, true, ℕ, zero, suc, ◌+◌, ◌<◌, ◌≤◌, List, [], ◌∷◌, ◌++◌, length, Some, None, refl, subst, arith, get_or, map}
-use Rattle.std.specs.Prelude.{slice_get}
-use Rattle.std.specs.List.{All}
-use Rattle.py_node.specs.declared.refs.PyStrInterned.{PyStrInterned}
-use Rattle.py_node.specs.declared.payload.Node.{Node}
-use Rattle.py_node.specs.declared.payload.Form.{Form}
+use Rattle.class_world.proofs.Below.{true, ℕ, zero, suc, List, [], length, Some, None, refl, subst, arith, get_or, map, slice_get, All, PyStrInterned, Node, Form, is_class, Held, IsBelow, AreBelow, IsNode, IsClass, class_in, held_class, Holds, AllHold, Lasts, of_node, of_form, SoundWith, Sound}
+use Rattle.std.proofs.Common.{◌≡◌, ◌+◌, ◌<◌, ◌≤◌, ◌∷◌, ◌++◌}
 use Rattle.py_node.specs.declared.payload.Form.TheVariants as form
-use Rattle.class_model.specs.Class.{is_class}
-use Rattle.class_world.specs.Held.{Held}
-use Rattle.class_world.specs.Tables.{IsBelow, AreBelow}
-use Rattle.class_world.specs.Sound.{IsNode, IsClass, class_in, held_class, Holds, AllHold, Lasts, of_node, of_form, SoundWith, Sound}
 use Rattle.class_world.proofs.Claims.{all-grow, each-push}
 use Rattle.class_world.proofs.Growth.{grows-lasts, node-grows, form-grows, names-grow}
 

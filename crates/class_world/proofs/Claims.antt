@@ -1,9 +1,6 @@
 -- Lists of claims.
-use Rattle.std.proofs.Common.{◌≡◌, ℕ, zero, suc, ◌<◌, List, [], ◌∷◌, ◌++◌, length, take, Some, refl, sym, ap, subst, arith, get_or, map}
-use Rattle.std.specs.Prelude.{slice_get}
-use Rattle.class_world.specs.Held.{Held}
-use Rattle.py_node.specs.declared.refs.PyObjectRef.{PyObjectRef}
-use Rattle.class_world.specs.Sound.{Claim, IsNode, AreNodes, IsExpression, AreExpressions, Holds, AllHold, Lasts, Grows, of_each}
+use Rattle.class_world.proofs.Below.{ℕ, zero, suc, List, [], length, take, Some, refl, sym, ap, subst, arith, get_or, map, slice_get, Held, PyObjectRef, Claim, IsNode, AreNodes, IsExpression, AreExpressions, Holds, AllHold, Lasts, Grows, of_each}
+use Rattle.std.proofs.Common.{◌≡◌, ◌<◌, ◌∷◌, ◌++◌}
 
 pub all-last : (old new : Held) → Lasts old new → (cs : List Claim) → AllHold old cs → AllHold new cs
 all-last old new g [] h = tt

@@ -1,38 +1,8 @@
 -- Classes that are changed or made.
-use Rattle.std.proofs.Common.{◌≡◌, ℕ, suc, ◌^◌, ◌<◌, ◌≤◌, Bool, true, false, cond, eqb, inl, inr, List, [], ◌∷◌, ◌++◌, length, Option, Some, None, Result, Ok, Err, OnOk, OnErr, refl, sym, ap, ◌∙◌, subst, arith, length-append}
-use Rattle.std.specs.Prelude.{is_some, nat_lt, option_map, option_and_then}
-use Rattle.py_node.specs.declared.payload.Node.{Node}
-use Rattle.py_node.specs.declared.refs.PyObjectRef.{PyObjectRef}
-use Rattle.py_node.specs.declared.refs.PyStrInterned.{PyStrInterned}
-use Rattle.py_node.specs.declared.refs.PyTypeRef.{PyTypeRef}
+use Rattle.class_world.proofs.Below.{ℕ, suc, Bool, true, false, cond, eqb, inl, inr, List, [], length, Option, Some, None, Result, Ok, Err, OnOk, OnErr, refl, sym, ap, ◌∙◌, subst, arith, length-append, is_some, nat_lt, option_map, option_and_then, Node, PyObjectRef, PyStrInterned, PyTypeRef, with_value, is_same_name, Text, Class, Classes, class_at, is_class, has_flag, rekeyed, renamed, limit, best_of, AreSound, each-there, with_class_attr, at-before, at-changed, at-last, old-or-last, member_count-kept, layout-same, AreThere, numbers, is_text, with_own_attr, with_new_class, Change, Keeps, IsLogged, AreEmpty, Held, Reading, spelled, node_of, plain, IsName, IsNode, IsClass, IsOf, AreMembers, GetsDict, Standing, AreNames, class_in, held_class, Holds, AllHold, Grows, SoundWith, Sound, flags_at, is_marked_heap, of_binding, of_class, of_class_ref, of_dict, of_node, of_each, BuiltIn, TypeType, the_dict, held_by, offset-kept}
+use Rattle.std.proofs.Common.{◌≡◌, ◌^◌, ◌<◌, ◌≤◌, ◌∷◌, ◌++◌}
 use Rattle.py_node.specs.declared.payload.Payload.TheVariants as payload
-use Rattle.py_node.specs.Attributes.{with_value, is_same_name}
-use Rattle.py_node.specs.Tree.{Text}
-use Rattle.class_model.specs.Class.{Class, Classes, class_at, is_class, has_flag, rekeyed, renamed}
-use Rattle.class_model.specs.Numbers.{limit}
-use Rattle.class_model.specs.Layout.{best_of}
-use Rattle.class_model.specs.Sound.{AreSound}
-use Rattle.class_table.proofs.Pushed.{each-there}
-use Rattle.class_model.specs.Change.{with_class_attr}
-use Rattle.class_model.proofs.Numbers.{at-before, at-changed, at-last, old-or-last}
-use Rattle.class_model.proofs.Kept.{member_count-kept}
-use Rattle.class_model.proofs.PlaceOffsets.{layout-same}
-use Rattle.class_table.specs.Refused.{AreThere}
-use Rattle.class_table.specs.Keys.{numbers}
-use Rattle.plain_machine.specs.World.{is_text, with_own_attr, with_new_class}
-use Rattle.class_log.specs.Change.{Change}
-use Rattle.class_log.specs.Following.{Keeps}
-use Rattle.class_log.specs.Logged.{IsLogged}
-use Rattle.class_world.specs.Added.{AreEmpty}
-use Rattle.class_world.specs.Held.{Held}
-use Rattle.class_world.specs.Reading.{Reading, spelled, node_of, plain}
-use Rattle.class_world.specs.Sound.{IsName, IsNode, IsClass, IsOf, AreMembers, GetsDict, Standing, AreNames, class_in, held_class, Holds, AllHold, Grows, SoundWith, Sound, flags_at, is_marked_heap, of_binding, of_class, of_class_ref, of_dict, of_node, of_each}
 use Rattle.class_world.proofs.Claims.{all-grow, all-append, all-first, all-rest, each-push, get-end}
-use Rattle.py_node.specs.declared.built_in.BuiltIn.{BuiltIn}
-use Rattle.py_node.specs.declared.built_in.BuiltIn.TheVariants.{TypeType}
-use Rattle.plain_machine.specs.Known.{the_dict}
-use Rattle.plain_machine.specs.Sound.{held_by}
-use Rattle.plain_machine.proofs.Offsets.{offset-kept}
 use Rattle.class_world.proofs.Homes.{held_by-made, held_by-attr}
 use Rattle.class_world.proofs.Growth.{Like, like-itself, like-push, keep-itself, keep-push, grows, grows-lasts}
 use Rattle.class_world.proofs.SamePlaces.{nodes-same, classes-read, none-read, empty-hold}

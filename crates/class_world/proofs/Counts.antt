@@ -1,15 +1,6 @@
 -- How many places the objects of a class have, as a reading has the classes.
-use Rattle.std.proofs.Common.{◌≡◌, ℕ, ◌<◌, true, List, [], ◌∷◌, Option, Some, None, refl, ap, ◌∙◌, subst, arith}
-use Rattle.std.specs.Prelude.{option_map}
-use Rattle.std.proofs.lemmas.Bool.{lt-ltb}
-use Rattle.std.proofs.lemmas.List.{length-map}
-use Rattle.class_model.specs.Class.{Classes, renamed}
-use Rattle.class_model.specs.Layout.{layout, member_count, members_in, place_count}
-use Rattle.class_model.proofs.Renamed.{at-renamed, layout-renamed}
-use Rattle.plain_machine.specs.Sound.{is_below, is_offset}
-use Rattle.class_world.specs.Held.{Held}
-use Rattle.class_world.specs.Reading.{Reading, spelled, plain}
-use Rattle.class_world.specs.Sound.{IsOffset, Holds}
+use Rattle.class_world.proofs.Below.{ℕ, true, List, [], Option, Some, None, refl, ap, ◌∙◌, subst, arith, option_map, lt-ltb, length-map, Classes, renamed, layout, member_count, members_in, place_count, at-renamed, layout-renamed, is_below, is_offset, Held, Reading, spelled, plain, IsOffset, Holds}
+use Rattle.std.proofs.Common.{◌≡◌, ◌<◌, ◌∷◌}
 
 module _ {K L : Type 0} (f : K → L) (t : Classes K) where
   members-renamed : (line : List ℕ) → members_in (renamed f t) line ≡ members_in t line

@@ -1,21 +1,9 @@
 -- A function that a class defines, in a world.
-use Rattle.std.proofs.Common.{◌≡◌, ℕ, zero, suc, ◌<◌, List, [], ◌∷◌, length, Option, Some, None, refl, sym, ap, ◌∙◌, subst, arith, get_or, map}
-use Rattle.std.specs.Prelude.{slice_get, slice_set, is_some, false, option_map}
-use Rattle.class_model.specs.Class.{Classes, class_at}
-use Rattle.class_model.specs.Slot.{is_heap_at}
-use Rattle.py_node.specs.declared.refs.PyStrInterned.{PyStrInterned}
-use Rattle.py_node.specs.declared.refs.PyObjectRef.{PyObjectRef}
-use Rattle.py_node.specs.declared.refs.PyTypeRef.{PyTypeRef}
-use Rattle.py_node.specs.declared.payload.Node.{Node as StoredNode}
-use Rattle.py_node.specs.declared.payload.Payload.{Payload}
+use Rattle.class_world.proofs.Below.{ℕ, zero, suc, List, [], length, Option, Some, None, refl, sym, ap, ◌∙◌, subst, arith, get_or, map, slice_get, slice_set, is_some, option_map, Classes, class_at, is_heap_at, PyStrInterned, PyObjectRef, PyTypeRef, Node as StoredNode, Payload, AFunction, or_class, defined_by, with_datum_in, with_definer, keeps-itself, Held, Reading, spelled, datum, node_of, plain, Claim, IsClass, IsOf, GetsDict, class_in, held_class, Holds, AllHold, Grows, Sound, of_option, of_class_ref, of_dict_ref, of_payload, of_node, of_each, or_class_ref, defined_payload, defined_node}
+use Rattle.std.proofs.Common.{◌≡◌, ◌<◌, ◌∷◌}
+use Rattle.std.specs.Prelude.{false}
 use Rattle.py_node.specs.declared.payload.Payload.TheVariants as payload
-use Rattle.plain_machine.specs.Plain.{AFunction, Node}
-use Rattle.plain_machine.specs.Objects.{or_class, defined_by, with_datum_in, with_definer}
-use Rattle.class_log.proofs.Logged.{keeps-itself}
-use Rattle.class_world.specs.Held.{Held}
-use Rattle.class_world.specs.Reading.{Reading, spelled, datum, node_of, plain}
-use Rattle.class_world.specs.Sound.{Claim, IsClass, IsOf, GetsDict, class_in, held_class, Holds, AllHold, Grows, Sound, of_option, of_class_ref, of_dict_ref, of_payload, of_node, of_each}
-use Rattle.class_world.specs.Defined.{or_class_ref, defined_payload, defined_node}
+use Rattle.plain_machine.specs.Plain.{Node}
 use Rattle.class_world.proofs.Claims.{all-grow, all-append, all-first, all-rest, each-get, got}
 use Rattle.class_world.proofs.Growth.{Lasting, lasting, like-itself, grows, grows-lasts}
 use Rattle.class_world.proofs.Changes.{fixed-grow, built_in-grow}

@@ -1,24 +1,8 @@
 -- Dicts whose entries change, in a world.
-use Rattle.std.proofs.Common.{◌≡◌, ℕ, zero, suc, ◌<◌, List, [], ◌∷◌, ◌++◌, length, map, get_or, Some, None, Result, Ok, Err, OnOk, OnErr, refl, sym, ap, ◌∙◌, subst, arith}
-use Rattle.std.specs.Prelude.{slice_get, slice_set, is_some, option_map}
-use Rattle.std.specs.List.{remove}
-use Rattle.py_node.specs.declared.refs.PyObjectRef.{PyObjectRef}
-use Rattle.py_node.specs.declared.built_in.BuiltIn.TheVariants.{Dict}
-use Rattle.py_node.specs.declared.payload.Node.{Node as StoredNode}
-use Rattle.py_node.specs.declared.payload.Payload.{Payload}
+use Rattle.class_world.proofs.Below.{ℕ, zero, suc, List, [], length, map, get_or, Some, None, Result, Ok, Err, OnOk, OnErr, refl, sym, ap, ◌∙◌, subst, arith, slice_get, slice_set, is_some, option_map, remove, PyObjectRef, Dict, Node as StoredNode, Payload, PyStrInterned, Classes, PyDictKey, PlainDict, empty_dict, put_at, dict_put, dict_pushed, dict_removed, ADict, with_datum_in, Entries, with_entries, keeps-itself, Held, dict_in, held_dict, dict_at, of_entries, of_keyed, IsDict, HasOther, Reading, places_of, datum, node_of, plain, AreMembers, GetsDict, IsNode, IsOf, AreNodes, KeysDiffer, KeysRead, Holding, home_of, class_in, held_key, AreRead, Holds, AllHold, Grows, Sound, of_class_ref, of_option, of_dict_ref, of_payload, of_node}
+use Rattle.std.proofs.Common.{◌≡◌, ◌<◌, ◌∷◌, ◌++◌}
 use Rattle.py_node.specs.declared.payload.Payload.TheVariants as payload
-use Rattle.py_node.specs.declared.refs.PyStrInterned.{PyStrInterned}
-use Rattle.class_model.specs.Class.{Classes}
-use Rattle.py_node.specs.declared.dict.PyDictKey.{PyDictKey}
-use Rattle.py_node.specs.Dicts.{PlainDict, empty_dict, put_at, dict_put, dict_pushed, dict_removed}
-use Rattle.plain_machine.specs.Plain.{ADict, Node}
-use Rattle.plain_machine.specs.Objects.{with_datum_in}
-use Rattle.plain_machine.specs.Dicts.{Entries, with_entries}
-use Rattle.class_log.proofs.Logged.{keeps-itself}
-use Rattle.class_world.specs.Held.{Held}
-use Rattle.class_world.specs.Keyed.{dict_in, held_dict, dict_at, of_entries, of_keyed, IsDict, HasOther}
-use Rattle.class_world.specs.Reading.{Reading, places_of, datum, node_of, plain}
-use Rattle.class_world.specs.Sound.{AreMembers, GetsDict, IsNode, IsOf, AreNodes, KeysDiffer, KeysRead, Holding, home_of, class_in, held_key, AreRead, Holds, AllHold, Grows, Sound, of_class_ref, of_option, of_dict_ref, of_payload, of_node}
+use Rattle.plain_machine.specs.Plain.{Node}
 use Rattle.class_world.proofs.Claims.{opened-one, seen, all-grow, all-append, all-first, all-rest, each-get, got, no-nodes}
 use Rattle.class_world.proofs.Growth.{Lasting, lasting, like-itself, grows, grows-lasts}
 use Rattle.class_world.proofs.Changes.{fixed-grow, built_in-grow}

@@ -1,13 +1,6 @@
 -- Entries of dicts and lists of keys, by places.
-use Rattle.std.proofs.Common.{◌≡◌, ℕ, zero, suc, ◌+◌, ◌<◌, Bool, true, false, cond, List, [], ◌∷◌, ◌++◌, length, get_or, map, Option, Some, None, refl, sym, ap, ◌∙◌, subst, arith}
-use Rattle.std.specs.Prelude.{slice_get, is_some, option_map, position}
-use Rattle.std.specs.List.{All, remove, position_from}
-use Rattle.std.proofs.lemmas.Iterator.Adapters.{position_from-zero}
-use Rattle.py_node.specs.declared.refs.PyObjectRef.{PyObjectRef}
-use Rattle.py_node.specs.Attributes.{value_of}
-use Rattle.plain_machine.specs.Dicts.{Entries, with_value_for, without_value_for}
-use Rattle.plain_machine.specs.Sound.{Key, AreKeys}
-use Rattle.py_node.specs.Dicts.{put_at}
+use Rattle.class_world.proofs.Below.{ℕ, zero, suc, Bool, true, false, cond, List, [], length, get_or, map, Option, Some, None, refl, sym, ap, ◌∙◌, subst, arith, slice_get, is_some, option_map, position, All, remove, position_from, position_from-zero, PyObjectRef, value_of, Entries, with_value_for, without_value_for, Key, AreKeys, put_at}
+use Rattle.std.proofs.Common.{◌≡◌, ◌+◌, ◌<◌, ◌∷◌, ◌++◌}
 
 -- the first key that passes, where the entries start at a place
 pub record IsFirstFrom (test : PyObjectRef → Bool) (k n : ℕ) (es : Entries) : Type 0 where

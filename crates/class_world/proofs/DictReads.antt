@@ -1,33 +1,13 @@
 -- Dicts as they are read, by numbers and by texts.
-use Rattle.std.proofs.Common.{◌≡◌, ℕ, zero, suc, ◌<◌, Bool, true, List, [], ◌∷◌, ◌++◌, length, map, Option, Some, None, refl, sym, ap, ◌∙◌, subst, arith, true≢false}
-use Rattle.std.specs.Prelude.{slice_get, is_some, option_map, option_and_then, string_bytes, position}
-use Rattle.std.proofs.lemmas.Slice.Eq.{bytes_eq-Decides}
-use Rattle.py_node.specs.declared.refs.PyObjectRef.{PyObjectRef}
-use Rattle.py_node.specs.declared.refs.PyStrInterned.{PyStrInterned}
-use Rattle.class_model.specs.Class.{Classes}
-use Rattle.py_node.specs.declared.payload.Node.{Node as StoredNode}
-use Rattle.py_node.specs.declared.payload.Payload.{Payload}
+use Rattle.class_world.proofs.Below.{ℕ, zero, suc, Bool, true, List, [], length, map, Option, Some, None, refl, sym, ap, ◌∙◌, subst, arith, true≢false, slice_get, is_some, option_map, option_and_then, string_bytes, position, bytes_eq-Decides, PyObjectRef, PyStrInterned, Classes, Node as StoredNode, Payload, Dict, value_of, put_at, Text, Datum, AText, ADict, or_empty, datum_at, with_node, next_node, the_str, with_datum_in, Entries, entries_in, is_text_datum, is_key, value_in, with_entries, with_value_for, set_under, with_value_in, without_value_for, without_value_in, TextKey, AreKeys, key_of, key_at, Held, entries_of, entries_at, held_entries, is_text_of, is_text_at, is_held_key, held_text, of_entries, Reading, Reads, datum, node_of, plain, IsNode, IsName, KeysDiffer, KeysRead, Holding, home_of, home_at, key_in, held_key, Holds, AllHold, Grows, remove}
+use Rattle.std.proofs.Common.{◌≡◌, ◌<◌, ◌∷◌, ◌++◌}
 use Rattle.py_node.specs.declared.payload.Payload.TheVariants as payload
-use Rattle.py_node.specs.declared.built_in.BuiltIn.TheVariants.{Dict}
 use Rattle.py_node.specs.declared.dict.PyDictKey.TheVariants.{Text as StoredText}
-use Rattle.py_node.specs.Attributes.{value_of}
-use Rattle.py_node.specs.Dicts.{put_at}
-use Rattle.py_node.specs.Tree.{Text}
-use Rattle.plain_machine.specs.Plain.{Datum, AText, ADict, Node}
-use Rattle.plain_machine.specs.World.{or_empty, datum_at, with_node, next_node}
-use Rattle.plain_machine.specs.Known.{the_str}
-use Rattle.plain_machine.specs.Objects.{with_datum_in}
-use Rattle.plain_machine.specs.Dicts.{Entries, entries_in, is_text_datum, is_key, value_in, with_entries, with_value_for, set_under, with_value_in, without_value_for, without_value_in}
-use Rattle.plain_machine.specs.Sound.{TextKey, AreKeys, key_of, key_at}
-use Rattle.class_world.specs.Held.{Held}
-use Rattle.class_world.specs.Keyed.{entries_of, entries_at, held_entries, is_text_of, is_text_at, is_held_key, held_text, of_entries}
-use Rattle.class_world.specs.Reading.{Reading, Reads, datum, node_of, plain}
-use Rattle.class_world.specs.Sound.{IsNode, IsName, KeysDiffer, KeysRead, Holding, home_of, home_at, key_in, held_key, Holds, AllHold, Grows}
+use Rattle.plain_machine.specs.Plain.{Node}
 use Rattle.class_world.proofs.NewNodes.{datum-stays, datum-new}
 use Rattle.class_world.proofs.SoundWorld.{key_at-read, keys-stored, keys-read}
 use Rattle.class_world.proofs.DictEntries.{IsFirstFrom, NonePasses, first-key, no-key, keys-pushed, map-end}
 use Rattle.class_world.proofs.KeysRead.{text-there}
-use Rattle.std.specs.List.{remove}
 
 payload-entries : (t : Reading) (p : Payload) → entries_in (Some (datum t p)) ≡ entries_of p
 payload-entries t payload.Object = refl

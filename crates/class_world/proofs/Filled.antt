@@ -1,14 +1,6 @@
 -- How names get values in order, as a reading has them.
-use Rattle.std.proofs.Common.{◌≡◌, ℕ, zero, suc, ◌<◌, List, [], ◌∷◌, length, drop, min, get_or, map, Option, Some, None, refl, sym, ap, ◌∙◌, subst, arith}
-use Rattle.py_node.specs.declared.refs.PyObjectRef.{PyObjectRef}
-use Rattle.py_node.specs.declared.refs.PyStrInterned.{PyStrInterned}
-use Rattle.py_node.specs.Attributes.{with_value, is_same_name}
-use Rattle.plain_machine.specs.Args.{two_of, filled}
-use Rattle.plain_machine.specs.Plain.{Bindings}
-use Rattle.plain_machine.specs.World.{is_text}
-use Rattle.class_world.specs.Held.{Held}
-use Rattle.class_world.specs.Reading.{Reading, spelled, bindings}
-use Rattle.class_world.specs.Sound.{IsName, AreNames, IsNode, AreNodes, Holds}
+use Rattle.class_world.proofs.Below.{ℕ, zero, suc, List, [], length, drop, min, get_or, map, Option, Some, None, refl, sym, ap, ◌∙◌, subst, arith, PyObjectRef, PyStrInterned, with_value, is_same_name, two_of, filled, Bindings, is_text, Held, Reading, spelled, bindings, IsName, AreNames, IsNode, AreNodes, Holds}
+use Rattle.std.proofs.Common.{◌≡◌, ◌<◌, ◌∷◌}
 use Rattle.class_world.proofs.Bound.{with_value-read}
 use Rattle.class_world.proofs.Claims.{node-in}
 

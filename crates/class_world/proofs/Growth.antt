@@ -1,36 +1,8 @@
 -- Worlds that have grown, and claims that hold still.
-use Rattle.std.proofs.Common.{◌≡◌, ℕ, suc, ◌≤◌, List, [], ◌∷◌, ◌++◌, length, Option, Some, None, refl, sym, ap, ◌∙◌, subst, arith, length-append}
-use Rattle.std.specs.Prelude.{slice_get, is_some, is_none, Bool, true, false, ◌&&◌, ◌==◌, option_map, option_and_then}
-use Rattle.py_node.specs.declared.built_in.BuiltIn.{BuiltIn}
-use Rattle.py_node.specs.declared.refs.PyStrInterned.{PyStrInterned}
-use Rattle.class_model.specs.Class.{Class, class_at, is_class, lin}
-use Rattle.class_model.specs.Layout.{layout, layout_along, member_count, members_in, place_count}
-use Rattle.class_model.specs.Dict.{says_dict, has_dict}
-use Rattle.class_model.specs.Slot.{is_heap_at}
-use Rattle.py_node.specs.BuiltIns.{heap_type}
-use Rattle.py_node.specs.declared.refs.PyTypeRef.{PyTypeRef}
-use Rattle.std.specs.Int.RustNames.{bit_and}
-use Rattle.class_table.specs.OneBase.{says_so}
-use Rattle.class_model.proofs.Numbers.{at-before}
-use Rattle.class_model.proofs.Rule.{lin-classes}
-use Rattle.class_model.proofs.Changed.{lin-push}
-use Rattle.class_model.proofs.Kept.{layout-agrees}
-use Rattle.class_model.proofs.PlaceOffsets.{along-there, place_count-alike}
-use Rattle.class_model.proofs.Solid.{is_solid-push}
-use Rattle.plain_machine.specs.Sound.{held_by, is_offset, Key, TextKey, AreKeys}
-use Rattle.plain_machine.proofs.Offsets.{offset-push}
-use Rattle.py_node.specs.declared.refs.PyObjectRef.{PyObjectRef}
-use Rattle.py_node.specs.declared.dict.PyDictKey.{PyDictKey}
+use Rattle.class_world.proofs.Below.{ℕ, suc, List, [], length, Option, Some, None, refl, sym, ap, ◌∙◌, subst, arith, length-append, slice_get, is_some, is_none, option_map, option_and_then, BuiltIn, PyStrInterned, Class, class_at, is_class, lin, layout, layout_along, member_count, members_in, place_count, says_dict, has_dict, is_heap_at, heap_type, PyTypeRef, bit_and, says_so, at-before, lin-classes, lin-push, layout-agrees, along-there, place_count-alike, is_solid-push, held_by, is_offset, Key, TextKey, AreKeys, offset-push, PyObjectRef, PyDictKey, AllByRecursion, Node, Payload, Form, Change, Keeps, keeps-itself, keeps-on, Held, Claim, IsNode, AreNodes, IsExpression, AreExpressions, IsName, AreNames, IsClass, IsOf, Holding, Standing, CanBeKeys, KeysDiffer, KeysRead, HasForm, HasParams, HasValues, AreMembers, IsOffset, HasFlags, GetsDict, OfStatic, class_ref_at, flags_at, StandsThere, params_in, held_params, AreFilled, home_of, home_at, key_in, held_key, read_key, AreRead, class_in, held_class, Holds, Lasts, Grows}
+use Rattle.std.proofs.Common.{◌≡◌, ◌≤◌, ◌∷◌, ◌++◌}
+use Rattle.std.specs.Prelude.{Bool, true, false, ◌&&◌, ◌==◌}
 use Rattle.py_node.specs.declared.dict.PyDictKey.TheVariants as dict_key
-use Rattle.std.specs.List.{AllByRecursion}
-use Rattle.py_node.specs.declared.payload.Node.{Node}
-use Rattle.py_node.specs.declared.payload.Payload.{Payload}
-use Rattle.py_node.specs.declared.payload.Form.{Form}
-use Rattle.class_log.specs.Change.{Change}
-use Rattle.class_log.specs.Following.{Keeps}
-use Rattle.class_log.proofs.Logged.{keeps-itself, keeps-on}
-use Rattle.class_world.specs.Held.{Held}
-use Rattle.class_world.specs.Sound.{Claim, IsNode, AreNodes, IsExpression, AreExpressions, IsName, AreNames, IsClass, IsOf, Holding, Standing, CanBeKeys, KeysDiffer, KeysRead, HasForm, HasParams, HasValues, AreMembers, IsOffset, HasFlags, GetsDict, OfStatic, class_ref_at, flags_at, StandsThere, params_in, held_params, AreFilled, home_of, home_at, key_in, held_key, read_key, AreRead, class_in, held_class, Holds, Lasts, Grows}
 use Rattle.class_world.proofs.Claims.{get-pushed}
 use Rattle.class_world.proofs.Homes.{held_by-push}
 

@@ -1,24 +1,7 @@
 -- A class that a script makes, read by texts.
-use Rattle.std.proofs.Common.{◌≡◌, ℕ, Bool, true, false, cond, not, ◌||◌, ◌<◌, List, [], ◌∷◌, map, filter, length, Option, Some, None, refl, sym, ap, ◌∙◌, subst, arith}
-use Rattle.std.specs.Global.{Vec}
-use Rattle.std.specs.List.{list_any}
-use Rattle.std.proofs.lemmas.List.Elements.{All-filter}
+use Rattle.class_world.proofs.Below.{ℕ, Bool, true, false, cond, not, List, [], map, filter, length, Option, Some, None, refl, sym, ap, ◌∙◌, subst, arith, Vec, list_any, All-filter, PyObjectRef, PyStrInterned, heap_flags, number_of, Text, rekeyed, renamed, any_has_dict, is_dict, slot_members, slots_bring, heap_class, any_has_dict-agrees, has_dict-renamed, table_keys, slot_names, is_text, text_keys, Held, slot_texts, of_slots, Reading, Reads, spelled, bindings, plain, is_marked_heap, AreNames, Holds, AllHold, Sound}
+use Rattle.std.proofs.Common.{◌≡◌, ◌||◌, ◌<◌, ◌∷◌}
 use Rattle.py_node.specs.declared.known.Known.TheVariants.{Dict}
-use Rattle.py_node.specs.declared.refs.PyObjectRef.{PyObjectRef}
-use Rattle.py_node.specs.declared.refs.PyStrInterned.{PyStrInterned}
-use Rattle.py_node.specs.BuiltIns.{heap_flags}
-use Rattle.py_node.specs.Known.{number_of}
-use Rattle.py_node.specs.Tree.{Text}
-use Rattle.class_model.specs.Class.{rekeyed, renamed}
-use Rattle.class_model.specs.Dict.{any_has_dict, is_dict, slot_members, slots_bring, heap_class}
-use Rattle.class_model.proofs.Dict.{any_has_dict-agrees}
-use Rattle.class_model.proofs.Sound.{has_dict-renamed}
-use Rattle.class_table.specs.Keys.{table_keys, slot_names}
-use Rattle.plain_machine.specs.World.{is_text, text_keys}
-use Rattle.class_world.specs.Held.{Held}
-use Rattle.class_world.specs.NewHeap.{slot_texts, of_slots}
-use Rattle.class_world.specs.Reading.{Reading, Reads, spelled, bindings, plain}
-use Rattle.class_world.specs.Sound.{is_marked_heap, AreNames, Holds, AllHold, Sound}
 use Rattle.class_world.proofs.Look.{known-read}
 
 -- the members are among the names

@@ -1,20 +1,6 @@
 -- What the objects of a class hold, after one more class and after an attribute was set.
-use Rattle.std.proofs.Common.{◌≡◌, ℕ, ◌≤◌, true, List, Option, Some, None, Bool, refl, ap, ◌∙◌}
-use Rattle.std.specs.Prelude.{is_some, nat_lt, slice_get, option_map, option_and_then}
-use Rattle.py_node.specs.declared.built_in.BuiltIn.{BuiltIn}
-use Rattle.py_node.specs.declared.refs.PyObjectRef.{PyObjectRef}
-use Rattle.py_node.specs.BuiltIns.{all_built_ins}
-use Rattle.class_model.specs.Class.{Class, Classes, is_class, lin}
-use Rattle.class_model.specs.Numbers.{limit}
-use Rattle.class_model.specs.Change.{with_class, with_class_attr}
-use Rattle.class_model.specs.Order.{Includes}
-use Rattle.class_model.specs.Layout.{built_ins, best_of}
-use Rattle.class_model.specs.Sound.{AreSound}
-use Rattle.class_model.proofs.Numbers.{some-of, at-last}
-use Rattle.class_model.proofs.Layouts.{first-built_in}
-use Rattle.class_model.specs.Slot.{first_with}
-use Rattle.class_model.proofs.Changed.{lin-push, lin-attr}
-use Rattle.plain_machine.specs.Sound.{holds_as, held_by}
+use Rattle.class_world.proofs.Below.{ℕ, true, List, Option, Some, None, Bool, refl, ap, ◌∙◌, is_some, nat_lt, slice_get, option_map, option_and_then, BuiltIn, PyObjectRef, all_built_ins, Class, Classes, is_class, lin, limit, with_class, with_class_attr, Includes, built_ins, best_of, AreSound, some-of, at-last, first-built_in, first_with, lin-push, lin-attr, holds_as, held_by}
+use Rattle.std.proofs.Common.{◌≡◌, ◌≤◌}
 
 -- by the linearisation
 abbrev pub by_line : Option (List ℕ) → Option BuiltIn

@@ -1,8 +1,6 @@
 -- Items of lists of nodes.
-use Rattle.std.proofs.Common.{ℕ, ◌<◌, List, length, slice_index_or}
-use Rattle.py_node.specs.declared.refs.PyObjectRef.{PyObjectRef}
-use Rattle.class_world.specs.Held.{Held}
-use Rattle.class_world.specs.Sound.{IsNode, AreNodes, Holds}
+use Rattle.class_world.proofs.Below.{ℕ, List, length, slice_index_or, PyObjectRef, Held, IsNode, AreNodes, Holds}
+use Rattle.std.proofs.Common.{◌<◌}
 
 pub item_holds : (w : Held) (rs : List PyObjectRef) (i : ℕ) (d : PyObjectRef) → i < length rs → Holds w (AreNodes rs) → Holds w (IsNode (slice_index_or rs i d))
 unfolding Holds

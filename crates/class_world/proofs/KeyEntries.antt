@@ -1,29 +1,8 @@
 -- Entries with a value under a key.
-use Rattle.std.proofs.Common.{◌≡◌, ℕ, zero, suc, ◌+◌, ◌<◌, ◌≤◌, get_or, take, take_all, Bool, true, List, [], ◌∷◌, ◌++◌, map, length, Option, Some, None, refl, sym, ap, ◌∙◌, subst, arith, true≢false, false, cond, append-nil, fold}
-use Rattle.std.specs.Prelude.{slice_get, position, is_some, option_map, option_and_then}
-use Rattle.std.specs.List.{All, remove}
-use Rattle.std.proofs.lemmas.List.Sums.{fold_more}
-use Rattle.std.proofs.lemmas.Bool.Decides.{Decides-int_eq}
-use Rattle.std.proofs.lemmas.Slice.Eq.{bytes_eq-Decides}
-use Rattle.py_node.specs.declared.dict.PyDictKey.{PyDictKey}
+use Rattle.class_world.proofs.Below.{ℕ, zero, suc, get_or, take, take_all, Bool, true, List, [], map, length, Option, Some, None, refl, sym, ap, ◌∙◌, subst, arith, true≢false, false, cond, append-nil, fold, slice_get, position, is_some, option_map, option_and_then, All, remove, fold_more, Decides-int_eq, bytes_eq-Decides, PyDictKey, PyObjectRef, PyStrInterned, Node as StoredNode, Payload, value_of, PlainDict, is_same_key, put_at, AreDistinct, Text, Entries, entries_in, is_one_key, is_like, put_under, with_entries, with_entry, entries_from, without_value_for, PlainWorld, datum_at, Key, NumberKey, TextKey, AreKeys, key_at, Held, held_dict, held_text, is_held_key, of_entries, of_keyed, of_pairs, Reading, plain, IsName, IsNode, CanBeKeys, KeysDiffer, KeysRead, NamesKey, key_in, held_key, Holds, AllHold}
+use Rattle.std.proofs.Common.{◌≡◌, ◌+◌, ◌<◌, ◌≤◌, ◌∷◌, ◌++◌}
 use Rattle.py_node.specs.declared.dict.PyDictKey.TheVariants.{Number as StoredNumber, Text as StoredText}
-use Rattle.py_node.specs.declared.refs.PyObjectRef.{PyObjectRef}
-use Rattle.py_node.specs.declared.refs.PyStrInterned.{PyStrInterned}
-use Rattle.py_node.specs.declared.payload.Node.{Node as StoredNode}
-use Rattle.py_node.specs.declared.payload.Payload.{Payload}
 use Rattle.py_node.specs.declared.payload.Payload.TheVariants as payload
-use Rattle.py_node.specs.Attributes.{value_of}
-use Rattle.py_node.specs.Dicts.{PlainDict, is_same_key, put_at}
-use Rattle.py_node.specs.Texts.{AreDistinct}
-use Rattle.py_node.specs.Tree.{Text}
-use Rattle.plain_machine.specs.Dicts.{Entries, entries_in, is_one_key, is_like, put_under, with_entries, with_entry, entries_from, without_value_for}
-use Rattle.plain_machine.specs.Plain.{PlainWorld}
-use Rattle.plain_machine.specs.World.{datum_at}
-use Rattle.plain_machine.specs.Sound.{Key, NumberKey, TextKey, AreKeys, key_at}
-use Rattle.class_world.specs.Held.{Held}
-use Rattle.class_world.specs.Keyed.{held_dict, held_text, is_held_key, of_entries, of_keyed, of_pairs}
-use Rattle.class_world.specs.Reading.{Reading, plain}
-use Rattle.class_world.specs.Sound.{IsName, IsNode, CanBeKeys, KeysDiffer, KeysRead, NamesKey, key_in, held_key, Holds, AllHold}
 use Rattle.class_world.proofs.DictEntries.{IsFirstFrom, NonePasses, first-key, no-key, get-below, keys-pushed, map-end}
 use Rattle.class_world.proofs.DictReads.{entries-read}
 use Rattle.class_world.proofs.KeysRead.{absent, key-place, one-same, text-place, text-there, unnamed-place}

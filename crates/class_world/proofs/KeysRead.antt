@@ -1,26 +1,8 @@
 -- Stored keys and the objects that they name: one is found where the other stands.
-use Rattle.std.proofs.Common.{◌≡◌, ℕ, zero, suc, ◌+◌, ◌<◌, Bool, true, false, cond, List, [], ◌∷◌, ◌++◌, length, map, Option, Some, None, refl, sym, ap, ◌∙◌, arith}
-use Rattle.std.specs.Prelude.{slice_get, position, option_map, option_and_then}
-use Rattle.std.specs.List.{remove, position_from}
-use Rattle.std.proofs.lemmas.Bool.{eq-eqb, eqb-true}
-use Rattle.std.proofs.lemmas.Bool.Decides.{Decides-int_eq}
-use Rattle.std.proofs.lemmas.Iterator.Adapters.{position_from-zero}
-use Rattle.std.proofs.lemmas.Slice.Eq.{bytes_eq-Decides}
-use Rattle.py_node.specs.declared.dict.PyDictKey.{PyDictKey}
+use Rattle.class_world.proofs.Below.{ℕ, zero, suc, Bool, true, false, cond, List, [], length, map, Option, Some, None, refl, sym, ap, ◌∙◌, arith, slice_get, position, option_map, option_and_then, remove, position_from, eq-eqb, eqb-true, Decides-int_eq, position_from-zero, bytes_eq-Decides, PyDictKey, Node, Payload, PyObjectRef, PyStrInterned, is_same_key, AreDistinct, Text, Entries, is_one_key, or_empty, Key, NumberKey, TextKey, AreKeys, is_text_of, is_text_at, is_held_key, key_in, held_key, read_key, IsRead, AreRead}
+use Rattle.std.proofs.Common.{◌≡◌, ◌+◌, ◌<◌, ◌∷◌, ◌++◌}
 use Rattle.py_node.specs.declared.dict.PyDictKey.TheVariants as dict_key
-use Rattle.py_node.specs.declared.payload.Node.{Node}
-use Rattle.py_node.specs.declared.payload.Payload.{Payload}
 use Rattle.py_node.specs.declared.payload.Payload.TheVariants as payload
-use Rattle.py_node.specs.declared.refs.PyObjectRef.{PyObjectRef}
-use Rattle.py_node.specs.declared.refs.PyStrInterned.{PyStrInterned}
-use Rattle.py_node.specs.Dicts.{is_same_key}
-use Rattle.py_node.specs.Texts.{AreDistinct}
-use Rattle.py_node.specs.Tree.{Text}
-use Rattle.plain_machine.specs.Dicts.{Entries, is_one_key}
-use Rattle.plain_machine.specs.World.{or_empty}
-use Rattle.plain_machine.specs.Sound.{Key, NumberKey, TextKey, AreKeys}
-use Rattle.class_world.specs.Keyed.{is_text_of, is_text_at, is_held_key}
-use Rattle.class_world.specs.Sound.{key_in, held_key, read_key, IsRead, AreRead}
 use Rattle.class_world.proofs.Readable.{same-tests}
 
 -- stored keys that are one are the same

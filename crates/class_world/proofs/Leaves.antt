@@ -1,12 +1,7 @@
 -- What rows leave: what is said of numbers, and the bodies that are open.
-use Rattle.std.proofs.Common.{◌≡◌, ℕ, List, length, sym, subst, arith}
+use Rattle.class_world.proofs.Below.{ℕ, List, length, sym, subst, arith, length-map, Step, Held, Reading, plain, scope_of, Claim, AllHold, of_step, left_open, Leaves, LeavesOpen}
+use Rattle.std.proofs.Common.{◌≡◌}
 use Rattle.std.specs.Prelude.{Ok}
-use Rattle.std.proofs.lemmas.List.{length-map}
-use Rattle.py_node.specs.declared.task.Step.{Step}
-use Rattle.class_world.specs.Held.{Held}
-use Rattle.class_world.specs.Reading.{Reading, plain, scope_of}
-use Rattle.class_world.specs.Sound.{Claim, AllHold}
-use Rattle.class_world.specs.Claims.{of_step, left_open, Leaves, LeavesOpen}
 use Rattle.class_world.proofs.Growth.{grows-lasts}
 
 -- as many bodies run in the plain world

@@ -1,3 +1,5 @@
+pub mod Lemmas
+pub mod Below
 pub mod Claims
 pub mod MemberPlaces
 pub mod Homes

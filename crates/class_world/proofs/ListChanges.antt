@@ -1,21 +1,9 @@
 -- Lists whose items change, in a world.
-use Rattle.std.proofs.Common.{◌≡◌, ℕ, zero, suc, ◌<◌, ◌≤◌, false, List, [], ◌∷◌, ◌++◌, length, get_or, take, drop, Some, Result, Ok, Err, OnOk, OnErr, refl, sym, ap, ◌∙◌, subst}
-use Rattle.std.specs.Prelude.{slice_get, slice_set, option_map}
-use Rattle.std.specs.List.{remove, splice}
-use Rattle.std.specs.Global.{Vec}
-use Rattle.std.proofs.lemmas.List.Elements.{All-append, All-drop, All-set, All-take}
-use Rattle.py_node.specs.declared.refs.PyObjectRef.{PyObjectRef}
+use Rattle.class_world.proofs.Below.{ℕ, zero, suc, false, List, [], length, get_or, take, drop, Some, Result, Ok, Err, OnOk, OnErr, refl, sym, ap, ◌∙◌, subst, slice_get, slice_set, option_map, remove, splice, Vec, All-append, All-drop, All-set, All-take, PyObjectRef, Node as StoredNode, Payload, AList, Datum, with_datum, with_datum_in, datum_at, Held, HasItems, HasOtherItems, items_in, items_of, Reading, datum, plain, IsNode, AreNodes, Holding, home_of, is_lasting, with_payload, Holds, AllHold, Grows, Sound, of_option, of_dict_ref, of_payload, of_node}
+use Rattle.std.proofs.Common.{◌≡◌, ◌<◌, ◌≤◌, ◌∷◌, ◌++◌}
 use Rattle.py_node.specs.declared.built_in.BuiltIn.TheVariants as built_in
-use Rattle.py_node.specs.declared.payload.Node.{Node as StoredNode}
-use Rattle.py_node.specs.declared.payload.Payload.{Payload}
 use Rattle.py_node.specs.declared.payload.Payload.TheVariants as payload
-use Rattle.plain_machine.specs.Plain.{AList, Datum, Node}
-use Rattle.plain_machine.specs.Objects.{with_datum, with_datum_in}
-use Rattle.plain_machine.specs.World.{datum_at}
-use Rattle.class_world.specs.Held.{Held}
-use Rattle.class_world.specs.Listed.{HasItems, HasOtherItems, items_in, items_of}
-use Rattle.class_world.specs.Reading.{Reading, datum, plain}
-use Rattle.class_world.specs.Sound.{IsNode, AreNodes, Holding, home_of, is_lasting, with_payload, Holds, AllHold, Grows, Sound, of_option, of_dict_ref, of_payload, of_node}
+use Rattle.plain_machine.specs.Plain.{Node}
 use Rattle.class_world.proofs.Claims.{opened-one, all-rest, each-get, got}
 use Rattle.class_world.proofs.Growth.{grows-seen}
 use Rattle.class_world.proofs.Look.{node-read}

@@ -1,28 +1,8 @@
 -- What a world's tables say of a reading, and what the plain world has at a number.
-use Rattle.std.proofs.Common.{◌≡◌, ℕ, ◌^◌, ◌<◌, List, [], ◌∷◌, ◌++◌, length, Option, Some, None, Bool, true, false, sym, ap, subst}
-use Rattle.std.specs.Prelude.{slice_get, option_map, IsTrue, cond, eqb}
-use Rattle.py_node.specs.declared.refs.PyObjectRef.{PyObjectRef}
-use Rattle.py_node.specs.declared.payload.Node.{Node}
-use Rattle.py_node.specs.declared.payload.Form.{Form}
-use Rattle.py_node.specs.declared.refs.PyStrInterned.{PyStrInterned}
+use Rattle.class_world.proofs.Below.{ℕ, List, [], length, Option, Some, None, Bool, true, false, sym, ap, subst, slice_get, option_map, IsTrue, PyObjectRef, Node, Form, PyStrInterned, bit_and, SlotId, Known, known_texts, known_text, number_of, below, known-count, slice_get-get_or, slice_get_within, Class, class_at, has_flag, says_dict, entry, slot, candidates_of, goes_first, natives_of, entry-renamed, slot-renamed, candidates_of-renamed, goes_first-renamed, table_keys, node_at, text_keys, the_dict, Held, Reading, Reads, form_tree, node_of, spelled, plain, IsClass, Holds, AllHold, Sound, of_node, of_dict, of_class, of_each}
+use Rattle.std.proofs.Common.{◌≡◌, ◌^◌, ◌<◌, ◌∷◌, ◌++◌}
+use Rattle.std.specs.Prelude.{cond, eqb}
 use Rattle.std.specs.Prelude.{◌==◌}
-use Rattle.std.specs.Int.RustNames.{bit_and}
-use Rattle.py_node.specs.declared.entry.SlotId.{SlotId}
-use Rattle.py_node.specs.declared.known.Known.{Known}
-use Rattle.py_node.specs.Known.{known_texts, known_text, number_of}
-use Rattle.py_node.proofs.KnownNames.{below, known-count}
-use Rattle.std.proofs.lemmas.Option.{slice_get-get_or, slice_get_within}
-use Rattle.class_model.specs.Class.{Class, class_at, has_flag}
-use Rattle.class_model.specs.Dict.{says_dict}
-use Rattle.class_model.specs.Slot.{entry, slot, candidates_of, goes_first}
-use Rattle.class_model.specs.BuiltIn.{natives_of}
-use Rattle.class_model.proofs.Renamed.{entry-renamed, slot-renamed, candidates_of-renamed, goes_first-renamed}
-use Rattle.class_table.specs.Keys.{table_keys}
-use Rattle.plain_machine.specs.World.{node_at, text_keys}
-use Rattle.plain_machine.specs.Known.{the_dict}
-use Rattle.class_world.specs.Held.{Held}
-use Rattle.class_world.specs.Reading.{Reading, Reads, form_tree, node_of, spelled, plain}
-use Rattle.class_world.specs.Sound.{IsClass, Holds, AllHold, Sound, of_node, of_dict, of_class, of_each}
 use Rattle.class_world.proofs.Claims.{got-map, each-get, seen, all-first, all-rest, get-end, get-pushed}
 
 pub node-read : (w now : Held) (r : PyObjectRef) (n : Node) → w ≡ now → slice_get w.nodes r.0 ≡ Some n → (t : Reading) → node_at (plain t now) r ≡ Some (node_of t w.classes n)

@@ -1,24 +1,6 @@
 -- A class is made with its node, or neither is.
-use Rattle.std.proofs.Common.{◌≡◌, ℕ, false, List, length, Some, Result, Ok, Err, IfOk, OnOk, OnErr, sym, ap, ◌∙◌, subst}
-use Rattle.std.proofs.lemmas.List.{length-map}
-use Rattle.py_node.specs.declared.built_in.BuiltIn.{BuiltIn}
-use Rattle.py_node.specs.declared.built_in.BuiltIn.TheVariants.{TypeType}
-use Rattle.py_node.specs.declared.payload.Node.{Node}
-use Rattle.py_node.specs.declared.refs.PyStrInterned.{PyStrInterned}
-use Rattle.py_node.specs.declared.refs.PyTypeRef.{PyTypeRef}
-use Rattle.class_model.specs.Change.{with_class}
-use Rattle.class_model.specs.Class.{Class, Classes, rekeyed}
-use Rattle.class_model.specs.Layout.{best_of}
-use Rattle.class_model.specs.Sound.{AreSound}
-use Rattle.class_table.specs.Refused.{AreThere}
-use Rattle.plain_machine.specs.World.{ref, with_new_class}
-use Rattle.class_log.specs.Change.{Change}
-use Rattle.class_log.specs.Following.{Keeps}
-use Rattle.class_log.specs.Logged.{IsLogged}
-use Rattle.class_world.specs.Held.{Held}
-use Rattle.class_world.specs.NewHeap.{HasClassNode}
-use Rattle.class_world.specs.Reading.{Reading, Reads, node_of, spelled, plain}
-use Rattle.class_world.specs.Sound.{IsNode, IsClass, IsOf, AreNames, Holds, AllHold, Grows, Sound, is_marked_heap, of_binding, of_each}
+use Rattle.class_world.proofs.Below.{ℕ, false, List, length, Some, Result, Ok, Err, IfOk, OnOk, OnErr, sym, ap, ◌∙◌, subst, length-map, BuiltIn, TypeType, Node, PyStrInterned, PyTypeRef, with_class, Class, Classes, rekeyed, best_of, AreSound, AreThere, ref, with_new_class, Change, Keeps, IsLogged, Held, HasClassNode, Reading, Reads, node_of, spelled, plain, IsNode, IsClass, IsOf, AreNames, Holds, AllHold, Grows, Sound, is_marked_heap, of_binding, of_each}
+use Rattle.std.proofs.Common.{◌≡◌}
 use Rattle.class_world.proofs.Growth.{grows-itself}
 use Rattle.class_world.proofs.ClassChanges.{class_made, made-grows, class-made, class-made-of, node-made, made-sound, made-read}
 

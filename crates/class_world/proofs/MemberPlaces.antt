@@ -1,19 +1,7 @@
 -- What stands in the places of objects, each at its offset.
-use Rattle.std.proofs.Common.{◌≡◌, ℕ, zero, suc, ◌+◌, ◌<◌, Bool, true, false, cond, eqb, List, [], ◌∷◌, length, Option, Some, None, refl, ap, ◌∙◌, subst, arith}
-use Rattle.std.specs.Prelude.{◌&&◌, option_map, option_and_then, slice_set}
-use Rattle.std.specs.List.{AllByRecursion}
-use Rattle.std.proofs.lemmas.Bool.{eqb-true, eqb-false}
-use Rattle.py_node.specs.declared.refs.PyObjectRef.{PyObjectRef}
-use Rattle.py_node.specs.declared.refs.PyStrInterned.{PyStrInterned}
-use Rattle.py_node.specs.Places.{value_at}
-use Rattle.class_model.specs.Class.{Classes}
-use Rattle.class_model.specs.Layout.{is_place, first_place}
-use Rattle.class_model.specs.Offset.{offset_of}
-use Rattle.class_model.proofs.PlaceOffsets.{offset-apart}
-use Rattle.plain_machine.specs.Change.{with_place}
-use Rattle.class_world.specs.Held.{Held}
-use Rattle.class_world.specs.Reading.{places_of}
-use Rattle.class_world.specs.Sound.{AreMembers, StandsThere, Holds}
+use Rattle.class_world.proofs.Below.{ℕ, zero, suc, Bool, true, false, cond, eqb, List, [], length, Option, Some, None, refl, ap, ◌∙◌, subst, arith, option_map, option_and_then, slice_set, AllByRecursion, eqb-true, eqb-false, PyObjectRef, PyStrInterned, value_at, Classes, is_place, first_place, offset_of, offset-apart, with_place, Held, places_of, AreMembers, StandsThere, Holds}
+use Rattle.std.proofs.Common.{◌≡◌, ◌+◌, ◌<◌, ◌∷◌}
+use Rattle.std.specs.Prelude.{◌&&◌}
 
 abbrev Members : Type 0
 Members = List (Option PyObjectRef)

@@ -1,36 +1,6 @@
 -- Other bases for a class: why they are refused, as a reading has the classes, and what they make of a world.
-use Rattle.std.proofs.Common.{◌≡◌, ℕ, Bool, true, cond, ◌||◌, ◌&&◌, List, [], ◌∷◌, map, Option, Some, None, Result, Ok, Err, OnOk, OnErr, refl, sym, ap, ◌∙◌, subst}
-use Rattle.std.specs.Prelude.{is_some, IsSome, is_none, option_map, option_and_then}
-use Rattle.std.specs.Option.{option_or}
-use Rattle.py_node.specs.declared.raised.Cause.{Cause}
-use Rattle.py_node.specs.declared.raised.Cause.TheVariants.{EmptyBases, ImmutableType, InheritanceCycle, LayoutDiffers, DuplicateBase}
-use Rattle.py_node.specs.declared.refs.PyStrInterned.{PyStrInterned}
-use Rattle.class_model.specs.Order.{all_some, is_distinct}
-use Rattle.class_model.specs.Class.{Class, Classes, class_at, is_class, bases_of, lin, is_sub, renamed}
-use Rattle.class_model.specs.Change.{with_bases, order_cause, blamed_along, caused, failing}
-use Rattle.class_model.specs.Layout.{is_empty, solid, best_of, base}
-use Rattle.class_model.specs.Slot.{is_heap_at}
-use Rattle.class_model.specs.Sound.{AreSound}
-use Rattle.class_model.specs.Dict.{alike, has_dict, dict_with, keeps_dict}
-use Rattle.class_model.proofs.Agreed.{bind-agrees}
-use Rattle.class_model.proofs.Numbers.{at-changed}
-use Rattle.class_model.proofs.Dict.{any_has_dict-agrees}
-use Rattle.class_model.proofs.Sound.{has_dict-renamed}
-use Rattle.class_model.proofs.Kept.{is_class-kept, member_count-kept}
-use Rattle.class_model.proofs.Renamed.{at-renamed, bases_of-renamed, lin-renamed, is_sub-renamed, solid-renamed, base-renamed, best_of-renamed}
-use Rattle.class_table.specs.declared.fault.ClassFault.{ClassFault}
-use Rattle.class_table.specs.declared.fault.ClassFault.TheVariants.{Refused, RefusedAt, OutOfMemory}
-use Rattle.class_table.specs.Refused.{WithMemory, AreThere, refused_attr, refused_layout, most_derived}
-use Rattle.class_table.specs.Rebase.{any_derives, is_same, unless, refused_shape, refused_change, refused_rebase, Refusal, told, IsToldFirst}
-use Rattle.class_table.proofs.KeptLayouts.{layout-passed}
-use Rattle.class_table.proofs.Renames.{layout-alike}
-use Rattle.plain_machine.specs.Change.{SetBases, apply}
-use Rattle.plain_machine.proofs.Offsets.{offset-agrees}
-use Rattle.class_log.specs.Change.{Change}
-use Rattle.class_log.specs.Following.{Keeps}
-use Rattle.class_world.specs.Held.{Held}
-use Rattle.class_world.specs.Reading.{Reading, spelled, plain}
-use Rattle.class_world.specs.Sound.{AllHold, SoundWith, Sound, of_class, of_each, of_node}
+use Rattle.class_world.proofs.Below.{ℕ, Bool, true, cond, List, [], map, Option, Some, None, Result, Ok, Err, OnOk, OnErr, refl, sym, ap, ◌∙◌, subst, is_some, IsSome, is_none, option_map, option_and_then, option_or, Cause, EmptyBases, ImmutableType, InheritanceCycle, LayoutDiffers, DuplicateBase, PyStrInterned, all_some, is_distinct, Class, Classes, class_at, is_class, bases_of, lin, is_sub, renamed, with_bases, order_cause, blamed_along, caused, failing, is_empty, solid, best_of, base, is_heap_at, AreSound, alike, has_dict, dict_with, keeps_dict, bind-agrees, at-changed, any_has_dict-agrees, has_dict-renamed, is_class-kept, member_count-kept, at-renamed, bases_of-renamed, lin-renamed, is_sub-renamed, solid-renamed, base-renamed, best_of-renamed, ClassFault, Refused, RefusedAt, OutOfMemory, WithMemory, AreThere, refused_attr, refused_layout, most_derived, any_derives, is_same, unless, refused_shape, refused_change, refused_rebase, Refusal, told, IsToldFirst, layout-passed, layout-alike, SetBases, apply, offset-agrees, Change, Keeps, Held, Reading, spelled, plain, AllHold, SoundWith, Sound, of_class, of_each, of_node}
+use Rattle.std.proofs.Common.{◌≡◌, ◌||◌, ◌&&◌, ◌∷◌}
 use Rattle.class_world.proofs.ChangedClass.{changed-read, changed-holds, change-read}
 use Rattle.class_world.proofs.ClassChanges.{AreStanding, SameFlags, classes-sound}
 use Rattle.class_world.proofs.Growth.{Like, like-itself}

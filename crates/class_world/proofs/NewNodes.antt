@@ -1,10 +1,9 @@
 -- What a new node holds, and what the others hold still.
-use Rattle.std.proofs.Common.{◌≡◌, ℕ, zero, suc, ◌+◌, ◌⊎◌, Bool, true, false, List, [], ◌∷◌, ◌++◌, length, Option, Some, None, inl, inr, refl, ap, subst, length-append}
-use Rattle.std.specs.Prelude.{slice_get, cond, option_map}
-use Rattle.py_node.specs.declared.refs.PyObjectRef.{PyObjectRef}
-use Rattle.plain_machine.specs.Plain.{Datum, ADict, no_members, Node, PlainWorld}
-use Rattle.plain_machine.specs.World.{ref, datum_at, has_dict, push_node, with_node, next_node}
-use Rattle.plain_machine.specs.Known.{the_dict}
+use Rattle.class_world.proofs.Below.{ℕ, zero, suc, Bool, true, false, List, [], length, Option, Some, None, inl, inr, refl, ap, subst, length-append, slice_get, option_map, PyObjectRef, Datum, ADict, no_members, PlainWorld, ref, datum_at, push_node, with_node, next_node, the_dict}
+use Rattle.std.proofs.Common.{◌≡◌, ◌+◌, ◌⊎◌, ◌∷◌, ◌++◌}
+use Rattle.std.specs.Prelude.{cond}
+use Rattle.plain_machine.specs.Plain.{Node}
+use Rattle.plain_machine.specs.World.{has_dict}
 use Rattle.class_world.proofs.Claims.{get-end}
 
 abbrev pub held : Option Node → Option Datum

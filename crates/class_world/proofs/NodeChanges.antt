@@ -1,18 +1,7 @@
 -- One node that is changed, and tells for ever what it told.
-use Rattle.std.proofs.Common.{◌≡◌, ℕ, zero, suc, ◌<◌, false, List, [], ◌∷◌, length, map, get_or, refl, ap, ◌∙◌, subst, arith}
-use Rattle.std.specs.Prelude.{slice_set}
-use Rattle.py_node.specs.declared.refs.PyObjectRef.{PyObjectRef}
-use Rattle.py_node.specs.declared.payload.Node.{Node as StoredNode}
+use Rattle.class_world.proofs.Below.{ℕ, zero, suc, false, List, [], length, map, get_or, refl, ap, ◌∙◌, subst, arith, slice_set, PyObjectRef, Node as StoredNode, with_node_changed, with_object_changed, PyStrInterned, Classes, class_at, is_heap_at, keeps-itself, Held, Reading, node_of, plain, class_in, AllHold, Grows, Sound, of_node}
+use Rattle.std.proofs.Common.{◌≡◌, ◌<◌, ◌∷◌}
 use Rattle.plain_machine.specs.Plain.{Node}
-use Rattle.plain_machine.specs.World.{with_node_changed}
-use Rattle.plain_machine.specs.Change.{with_object_changed}
-use Rattle.py_node.specs.declared.refs.PyStrInterned.{PyStrInterned}
-use Rattle.class_model.specs.Class.{Classes, class_at}
-use Rattle.class_model.specs.Slot.{is_heap_at}
-use Rattle.class_log.proofs.Logged.{keeps-itself}
-use Rattle.class_world.specs.Held.{Held}
-use Rattle.class_world.specs.Reading.{Reading, node_of, plain}
-use Rattle.class_world.specs.Sound.{class_in, AllHold, Grows, Sound, of_node}
 use Rattle.class_world.proofs.Claims.{all-grow}
 use Rattle.class_world.proofs.Growth.{Lasting, lasting, like-itself, grows, grows-lasts}
 use Rattle.class_world.proofs.Changes.{fixed-grow, built_in-grow}

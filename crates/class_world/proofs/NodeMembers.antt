@@ -1,27 +1,7 @@
 -- Members of objects in a world: what is read of them, and how one is set.
-use Rattle.std.proofs.Common.{◌≡◌, ℕ, zero, suc, ◌<◌, true, false, cond, eqb, ◌&&◌, List, [], ◌∷◌, Option, Some, None, IfSome, refl, sym, ap, ◌∙◌, subst, length, get_or}
-use Rattle.std.specs.Prelude.{slice_get, slice_set, option_map, option_and_then}
-use Rattle.std.proofs.lemmas.Bool.{eq-eqb}
-use Rattle.py_node.specs.declared.members.MemberPlace.{MemberPlace}
-use Rattle.py_node.specs.declared.payload.Node.{Node as StoredNode}
-use Rattle.py_node.specs.declared.refs.PyObjectRef.{PyObjectRef}
-use Rattle.py_node.specs.declared.task.PySetterValue.{PySetterValue}
-use Rattle.py_node.specs.declared.task.PySetterValue.TheVariants.{Assign, Delete}
-use Rattle.py_node.specs.Places.{value_at}
-use Rattle.class_model.specs.Class.{is_sub}
-use Rattle.class_model.specs.Layout.{place_at}
-use Rattle.class_model.specs.Offset.{offset_of}
-use Rattle.class_model.specs.Sound.{AreSound}
-use Rattle.class_model.proofs.PlaceOffsets.{place-offset, offset-below, offset-inherited, offset-anywhere, offset-nowhere}
-use Rattle.plain_machine.specs.Plain.{Node, PlainWorld}
-use Rattle.plain_machine.specs.World.{node_at, with_node_changed}
-use Rattle.plain_machine.specs.Change.{with_place}
-use Rattle.plain_machine.specs.Members.{value_at_place, with_value_at_place}
-use Rattle.plain_machine.specs.Objects.{derives, is_instance}
-use Rattle.class_world.specs.Claims.{of_setter}
-use Rattle.class_world.specs.Held.{Held}
-use Rattle.class_world.specs.Reading.{Reading, places_of, spelled, node_of, plain, setter_value}
-use Rattle.class_world.specs.Sound.{IsNode, StandsThere, with_members, Holds, AllHold, Grows, Sound, of_node}
+use Rattle.class_world.proofs.Below.{ℕ, zero, suc, true, false, cond, eqb, List, [], Option, Some, None, IfSome, refl, sym, ap, ◌∙◌, subst, length, get_or, slice_get, slice_set, option_map, option_and_then, eq-eqb, MemberPlace, Node as StoredNode, PyObjectRef, PySetterValue, Assign, Delete, value_at, is_sub, place_at, offset_of, AreSound, place-offset, offset-below, offset-inherited, offset-anywhere, offset-nowhere, PlainWorld, node_at, with_node_changed, with_place, value_at_place, with_value_at_place, derives, is_instance, of_setter, Held, Reading, places_of, spelled, node_of, plain, setter_value, IsNode, StandsThere, with_members, Holds, AllHold, Grows, Sound, of_node}
+use Rattle.std.proofs.Common.{◌≡◌, ◌<◌, ◌&&◌, ◌∷◌}
+use Rattle.plain_machine.specs.Plain.{Node}
 use Rattle.class_world.proofs.Claims.{each-get}
 use Rattle.class_world.proofs.Growth.{lasting}
 use Rattle.class_world.proofs.Look.{node-read, node-holds}

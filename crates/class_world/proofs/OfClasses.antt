@@ -1,23 +1,7 @@
 -- Classes, as a reading has them, and what holds of their attributes.
-use Rattle.std.proofs.Common.{◌≡◌, ℕ, ◌<◌, ◌^◌, Bool, true, false, cond, eqb, length, List, [], ◌∷◌, Option, Some, None, refl, ap, subst, IfSome}
-use Rattle.py_node.specs.declared.raised.Cause.TheVariants.{ImmutableType}
-use Rattle.class_table.specs.Refused.{refused_attr, refused_layout, refused_bases}
-use Rattle.class_table.proofs.Renames.{layout-alike, refused-alike}
-use Rattle.std.specs.Prelude.{◌==◌, is_some, slice_get, option_map, option_and_then}
-use Rattle.std.specs.Int.RustNames.{bit_and}
-use Rattle.py_node.specs.declared.refs.PyObjectRef.{PyObjectRef}
-use Rattle.py_node.specs.declared.refs.PyStrInterned.{PyStrInterned}
-use Rattle.py_node.specs.Attributes.{is_same_name}
-use Rattle.py_node.specs.Tree.{Text}
-use Rattle.class_model.specs.Class.{Class, Classes, class_at, is_class, lin, has_flag, is_sub, own_of, or_else, along, found, past_first, found_past, rekeyed}
-use Rattle.class_model.specs.Slot.{is_heap_at}
-use Rattle.class_model.proofs.Renamed.{at-renamed, lin-renamed, is_sub-renamed, own_of-renamed, found-renamed, found_past-renamed}
-use Rattle.plain_machine.specs.World.{is_text}
-use Rattle.py_node.specs.declared.payload.Node.{Node}
-use Rattle.std.proofs.lemmas.Option.{slice_get_within}
-use Rattle.class_world.specs.Held.{Held}
-use Rattle.class_world.specs.Reading.{Reading, spelled, plain}
-use Rattle.class_world.specs.Sound.{IsNode, IsClass, class_in, Holds, AllHold, Sound, of_class, of_dict, of_each}
+use Rattle.class_world.proofs.Below.{ℕ, Bool, true, false, cond, eqb, length, List, [], Option, Some, None, refl, ap, subst, IfSome, ImmutableType, refused_attr, refused_layout, refused_bases, layout-alike, refused-alike, is_some, slice_get, option_map, option_and_then, bit_and, PyObjectRef, PyStrInterned, is_same_name, Text, Class, Classes, class_at, is_class, lin, has_flag, is_sub, own_of, or_else, along, found, past_first, found_past, rekeyed, is_heap_at, at-renamed, lin-renamed, is_sub-renamed, own_of-renamed, found-renamed, found_past-renamed, is_text, Node, slice_get_within, Held, Reading, spelled, plain, IsNode, IsClass, class_in, Holds, AllHold, Sound, of_class, of_dict, of_each}
+use Rattle.std.proofs.Common.{◌≡◌, ◌<◌, ◌^◌, ◌∷◌}
+use Rattle.std.specs.Prelude.{◌==◌}
 use Rattle.class_world.proofs.Claims.{all-first, all-rest}
 use Rattle.class_world.proofs.Bound.{value-holds}
 

@@ -1,21 +1,8 @@
 -- Classes with one base.
-use Rattle.std.proofs.Common.{◌≡◌, ℕ, ◌-◌, ◌^◌, Bool, true, false, [], cond, Some, None, refl, sym, ap, ◌∙◌, subst, arith}
-use Rattle.std.specs.Prelude.{option_map, ◌&&◌, ◌==◌}
-use Rattle.std.specs.Int.RustNames.{bit_and, bit_or}
-use Rattle.std.specs.Int.Bits.{and_self}
-use Rattle.std.proofs.lemmas.Nat.{and_assoc, and_or_apart}
-use Rattle.std.proofs.lemmas.Grind.{and-not_self}
-use Rattle.py_node.specs.BuiltIns.{heap_flags, heap_type, method_descriptor, has_dict as dict_flag}
-use Rattle.py_node.specs.declared.raised.Cause.TheVariants.{NotBaseType}
-use Rattle.py_node.specs.declared.refs.PyStrInterned.{PyStrInterned}
-use Rattle.py_node.specs.Tree.{Text}
-use Rattle.class_model.specs.Class.{Class, is_class}
-use Rattle.class_table.specs.Refused.{is_base_at}
-use Rattle.class_table.specs.OneBase.{refused_single, says_so, static_flags}
-use Rattle.class_log.specs.Logged.{IsGivenTo, IsGiven}
-use Rattle.class_world.specs.Held.{Held}
-use Rattle.class_world.specs.Reading.{Reading, plain}
-use Rattle.class_world.specs.Sound.{Holds, IsClass, AreNames, flags_at, is_marked_heap}
+use Rattle.class_world.proofs.Below.{ℕ, Bool, true, false, [], cond, Some, None, refl, sym, ap, ◌∙◌, subst, arith, option_map, bit_and, bit_or, and_self, and_assoc, and_or_apart, and-not_self, heap_flags, heap_type, method_descriptor, NotBaseType, PyStrInterned, Text, Class, is_class, is_base_at, refused_single, says_so, static_flags, IsGivenTo, IsGiven, Held, Reading, plain, Holds, IsClass, AreNames, flags_at, is_marked_heap}
+use Rattle.std.proofs.Common.{◌≡◌, ◌-◌, ◌^◌}
+use Rattle.std.specs.Prelude.{◌&&◌, ◌==◌}
+use Rattle.py_node.specs.BuiltIns.{has_dict as dict_flag}
 use Rattle.class_world.proofs.OfClasses.{class-seen}
 
 pub class-there : (w : Held) (c : ℕ) → Holds w (IsClass c) → is_class w.classes c ≡ true

@@ -1,38 +1,10 @@
 -- The world of a new machine: own attribute by own attribute, its classes and its nodes grow together.
-use Rattle.std.proofs.Common.{◌≡◌, ℕ, suc, ◌+◌, ◌<◌, ◌≤◌, true, false, cond, List, [], ◌∷◌, ◌++◌, length, fold, Option, Some, None, Ok, refl, sym, ap, ◌∙◌, subst, arith, length-append}
-use Rattle.std.specs.Prelude.{◌==◌, option_map}
-use Rattle.std.specs.Int.RustNames.{bit_and}
-use Rattle.std.proofs.lemmas.List.{length-map}
-use Rattle.py_node.specs.declared.attr.Attr.{Attr}
+use Rattle.class_world.proofs.Below.{ℕ, suc, true, false, cond, List, [], length, fold, Option, Some, None, Ok, refl, sym, ap, ◌∙◌, subst, arith, length-append, option_map, bit_and, length-map, Attr, BuiltIn, Known, Node, PyObjectRef, PyStrInterned, PyTypeRef, is_same_name, place_of, flags_of, built_in_flags, all_built_ins, fixed_none, fixed_node_count, known_text, known_texts, number_of, own_attrs, Class, Classes, class_at, with_class_attr, place_count, says_dict, has_dict, built_in_classes, place-first, has_dict-renamed, says_so, Numbered, value_number, number_past, with_own, with_all_own, with_each_own, start_classes, keeps-itself, logged-first, PlainWorld, holds_as, attr_class, attr_datum, is_made, with_attr, with_attrs, bare, start, ref, with_node, next_node, with_own_attr, Held, Reading, Reads, datum, spelled, node_of, plain, IsName, IsNode, IsClass, IsOf, Holds, AllHold, SoundWith, Sound, flags_at, home_of, class_in, of_payload, start_nodes, own_payload, own_node, with_own_node, with_own_nodes, opening_nodes}
+use Rattle.std.proofs.Common.{◌≡◌, ◌+◌, ◌<◌, ◌≤◌, ◌∷◌, ◌++◌}
+use Rattle.std.specs.Prelude.{◌==◌}
 use Rattle.py_node.specs.declared.attr.Attr.TheVariants as attr
-use Rattle.py_node.specs.declared.built_in.BuiltIn.{BuiltIn}
-use Rattle.py_node.specs.declared.known.Known.{Known}
-use Rattle.py_node.specs.declared.payload.Node.{Node}
-use Rattle.py_node.specs.declared.refs.PyObjectRef.{PyObjectRef}
-use Rattle.py_node.specs.declared.refs.PyStrInterned.{PyStrInterned}
-use Rattle.py_node.specs.declared.refs.PyTypeRef.{PyTypeRef}
-use Rattle.py_node.specs.Attributes.{is_same_name}
-use Rattle.py_node.specs.BuiltIns.{place_of, flags_of, built_in_flags, all_built_ins, fixed_none, fixed_node_count, has_dict as dict_flag}
-use Rattle.py_node.specs.Known.{known_text, known_texts, number_of}
-use Rattle.py_node.specs.OwnAttrs.{own_attrs}
-use Rattle.class_model.specs.Class.{Class, Classes, class_at}
-use Rattle.class_model.specs.Change.{with_class_attr}
-use Rattle.class_model.specs.Layout.{place_count}
-use Rattle.class_model.specs.Dict.{says_dict, has_dict}
-use Rattle.class_model.specs.Start.{built_in_classes}
-use Rattle.class_model.proofs.Names.{place-first}
-use Rattle.class_model.proofs.Sound.{has_dict-renamed}
-use Rattle.class_table.specs.OneBase.{says_so}
-use Rattle.class_table.specs.Start.{Numbered, value_number, number_past, with_own, with_all_own, with_each_own, start_classes}
-use Rattle.class_log.proofs.Logged.{keeps-itself, logged-first}
-use Rattle.plain_machine.specs.Plain.{PlainWorld}
-use Rattle.plain_machine.specs.Sound.{holds_as}
-use Rattle.plain_machine.specs.Start.{attr_class, attr_datum, is_made, with_attr, with_attrs, bare, start}
-use Rattle.plain_machine.specs.World.{ref, with_node, next_node, with_own_attr, has_dict as plain_has_dict}
-use Rattle.class_world.specs.Held.{Held}
-use Rattle.class_world.specs.Reading.{Reading, Reads, datum, spelled, node_of, plain}
-use Rattle.class_world.specs.Sound.{IsName, IsNode, IsClass, IsOf, Holds, AllHold, SoundWith, Sound, flags_at, home_of, class_in, of_payload}
-use Rattle.class_world.specs.StartNodes.{start_nodes, own_payload, own_node, with_own_node, with_own_nodes, opening_nodes}
+use Rattle.py_node.specs.BuiltIns.{has_dict as dict_flag}
+use Rattle.plain_machine.specs.World.{has_dict as plain_has_dict}
 use Rattle.class_world.proofs.Added.{object-sound, object-read}
 use Rattle.class_world.proofs.ClassChanges.{set-like, set-sound, set-read}
 use Rattle.class_world.proofs.Growth.{count-still}

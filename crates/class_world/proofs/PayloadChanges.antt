@@ -1,22 +1,9 @@
 -- Objects whose contents change, in a world.
-use Rattle.std.proofs.Common.{◌≡◌, ℕ, zero, suc, ◌<◌, false, List, [], ◌∷◌, length, map, get_or, Some, None, refl, sym, ap, ◌∙◌, subst, arith}
-use Rattle.std.specs.Prelude.{slice_set, is_some, option_map}
-use Rattle.py_node.specs.declared.refs.PyObjectRef.{PyObjectRef}
-use Rattle.py_node.specs.declared.built_in.BuiltIn.{BuiltIn}
-use Rattle.py_node.specs.declared.payload.Node.{Node as StoredNode}
-use Rattle.py_node.specs.declared.payload.Payload.{Payload}
+use Rattle.class_world.proofs.Below.{ℕ, zero, suc, false, List, [], length, map, get_or, Some, None, refl, sym, ap, ◌∙◌, subst, arith, slice_set, is_some, option_map, PyObjectRef, BuiltIn, Node as StoredNode, Payload, PyProperty, PyStrInterned, Classes, AProperty, with_datum_in, with_datum, keeps-itself, Held, Reading, datum, node_of, plain, IsNode, IsOf, GetsDict, Holding, home_of, is_lasting, class_in, with_payload, Holds, AllHold, Grows, Sound, of_option, of_dict_ref, of_payload, of_property, of_node, with_parts}
+use Rattle.std.proofs.Common.{◌≡◌, ◌<◌, ◌∷◌}
 use Rattle.py_node.specs.declared.payload.Payload.TheVariants as payload
-use Rattle.py_node.specs.declared.payload.PyProperty.{PyProperty}
 use Rattle.py_node.specs.declared.built_in.BuiltIn.TheVariants as built_in
-use Rattle.py_node.specs.declared.refs.PyStrInterned.{PyStrInterned}
-use Rattle.class_model.specs.Class.{Classes}
-use Rattle.plain_machine.specs.Plain.{AProperty, Node}
-use Rattle.plain_machine.specs.Objects.{with_datum_in, with_datum}
-use Rattle.class_log.proofs.Logged.{keeps-itself}
-use Rattle.class_world.specs.Held.{Held}
-use Rattle.class_world.specs.Reading.{Reading, datum, node_of, plain}
-use Rattle.class_world.specs.Sound.{IsNode, IsOf, GetsDict, Holding, home_of, is_lasting, class_in, with_payload, Holds, AllHold, Grows, Sound, of_option, of_dict_ref, of_payload, of_property, of_node}
-use Rattle.class_world.specs.Defined.{with_parts}
+use Rattle.plain_machine.specs.Plain.{Node}
 use Rattle.class_world.proofs.Claims.{opened-one, all-grow, all-append, all-first, each-get, got}
 use Rattle.class_world.proofs.Growth.{Lasting, lasting, like-itself, grows, grows-lasts}
 use Rattle.class_world.proofs.Changes.{fixed-grow, built_in-grow}

@@ -1,10 +1,6 @@
 -- Places of objects under other keys.
-use Rattle.std.proofs.Common.{◌≡◌, ℕ, ◌-◌, cond, List, [], ◌∷◌, Option, Some, None, refl, ap, ◌∙◌}
-use Rattle.std.specs.Prelude.{nat_lt, option_and_then}
-use Rattle.std.proofs.lemmas.List.{length-map}
-use Rattle.class_model.specs.Class.{Classes, class_at, renamed}
-use Rattle.class_model.specs.Layout.{layout, member_count, place_along, place_at}
-use Rattle.class_model.proofs.Renamed.{layout-renamed, at-renamed}
+use Rattle.class_world.proofs.Below.{ℕ, cond, List, [], Option, Some, None, refl, ap, ◌∙◌, nat_lt, option_and_then, length-map, Classes, class_at, renamed, layout, member_count, place_along, place_at, layout-renamed, at-renamed}
+use Rattle.std.proofs.Common.{◌≡◌, ◌-◌, ◌∷◌}
 
 -- names under other keys change no place
 module _ {K L : Type 0} (f : K → L) (t : Classes K) where

@@ -1,19 +1,7 @@
 -- The tables of a world can be read: names past the table are long, and trees go down.
-use Rattle.std.proofs.Common.{◌≡◌, ℕ, zero, suc, ◌+◌, ◌<◌, ◌≤◌, List, [], ◌∷◌, length, replicate, Option, Some, None, Bool, true, false, eqb, refl, sym, ap, ◌∙◌, arith, map}
-use Rattle.std.specs.Prelude.{slice_get}
-use Rattle.std.specs.List.{All}
-use Rattle.std.proofs.lemmas.Bool.{eq-eqb, eqb-true}
-use Rattle.std.proofs.lemmas.Slice.Eq.{bytes_eq-Decides}
-use Rattle.std.proofs.Math.ListN.{length-replicate}
-use Rattle.py_node.specs.declared.refs.PyStrInterned.{PyStrInterned}
-use Rattle.py_node.specs.declared.payload.Form.{Form}
+use Rattle.class_world.proofs.Below.{ℕ, zero, suc, List, [], length, replicate, Option, Some, None, Bool, true, false, eqb, refl, sym, ap, ◌∙◌, arith, map, slice_get, All, eq-eqb, eqb-true, bytes_eq-Decides, length-replicate, PyStrInterned, Form, AreDistinct, Text, Tree, TConst, TTuple, TList, TDict, TOp, TSeq, LNone, trees_of, keyed_of, is_text, World, IsBelow, AreBelow, form_tree, stored_entries, IsReadable}
+use Rattle.std.proofs.Common.{◌≡◌, ◌+◌, ◌<◌, ◌≤◌, ◌∷◌}
 use Rattle.py_node.specs.declared.payload.Form.TheVariants as form
-use Rattle.py_node.specs.Texts.{AreDistinct}
-use Rattle.py_node.specs.Tree.{Text, Tree, TConst, TTuple, TList, TDict, TOp, TSeq, LNone, trees_of, keyed_of}
-use Rattle.plain_machine.specs.World.{is_text}
-use Rattle.class_world.specs.declared.world.World.{World}
-use Rattle.class_world.specs.Tables.{IsBelow, AreBelow}
-use Rattle.class_world.specs.Reading.{form_tree, stored_entries, IsReadable}
 
 abbrev total : List Text → ℕ
 total [] = 0

@@ -1,33 +1,9 @@
 -- An object that gets another class, or another dict.
-use Rattle.std.proofs.Common.{◌≡◌, ℕ, Bool, true, false, Some, None, refl, sym, ap, ◌∙◌, subst}
-use Rattle.std.specs.Prelude.{◌&&◌, is_some, is_none, slice_get, option_map, option_and_then}
-use Rattle.std.specs.Option.{option_or}
-use Rattle.std.proofs.lemmas.Bool.{eqb-true}
-use Rattle.py_node.specs.declared.built_in.BuiltIn.TheVariants.{Dict}
-use Rattle.py_node.specs.declared.payload.Node.{Node as StoredNode}
-use Rattle.py_node.specs.declared.raised.Cause.TheVariants.{ImmutableType, LayoutDiffers}
-use Rattle.py_node.specs.declared.refs.PyObjectRef.{PyObjectRef}
-use Rattle.py_node.specs.declared.refs.PyStrInterned.{PyStrInterned}
-use Rattle.py_node.specs.declared.refs.PyTypeRef.{PyTypeRef}
-use Rattle.py_node.specs.Places.{value_at}
-use Rattle.class_model.specs.Class.{Classes, class_at, is_class, renamed}
-use Rattle.class_model.specs.Layout.{layout, solid}
-use Rattle.class_model.specs.Slot.{is_heap_at}
-use Rattle.class_model.specs.Dict.{alike, gives_dict, has_dict}
-use Rattle.class_model.specs.Sound.{AreSound}
-use Rattle.class_model.proofs.Numbers.{some-of}
-use Rattle.class_model.proofs.Renamed.{at-renamed, solid-renamed}
-use Rattle.class_model.proofs.Dict.{alike-same, has-gives}
-use Rattle.class_model.proofs.PlaceOffsets.{offset-alike, place_count-alike}
-use Rattle.class_model.proofs.Sound.{has_dict-renamed, sound-renamed}
-use Rattle.class_table.specs.Rebase.{is_same, refused_class, unless}
-use Rattle.class_table.proofs.KeptLayouts.{layout-solid}
+use Rattle.class_world.proofs.Below.{ℕ, Bool, true, false, Some, None, refl, sym, ap, ◌∙◌, subst, is_some, is_none, slice_get, option_map, option_and_then, option_or, eqb-true, Dict, Node as StoredNode, ImmutableType, LayoutDiffers, PyObjectRef, PyStrInterned, PyTypeRef, value_at, Classes, class_at, is_class, renamed, layout, solid, is_heap_at, alike, gives_dict, has_dict, AreSound, some-of, at-renamed, solid-renamed, alike-same, has-gives, offset-alike, place_count-alike, has_dict-renamed, sound-renamed, is_same, refused_class, unless, layout-solid, held_by, Held, Reading, places_of, datum, node_of, spelled, plain, IsNode, IsClass, Holding, class_in, Holds, AllHold, of_node, of_option, of_dict_ref, with_class_ref, with_dict_ref}
+use Rattle.std.proofs.Common.{◌≡◌}
+use Rattle.std.specs.Prelude.{◌&&◌}
 use Rattle.plain_machine.specs.Plain.{Node}
-use Rattle.plain_machine.specs.Sound.{held_by}
 use Rattle.plain_machine.specs.World.{class_at as node_class}
-use Rattle.class_world.specs.Held.{Held}
-use Rattle.class_world.specs.Reading.{Reading, places_of, datum, node_of, spelled, plain}
-use Rattle.class_world.specs.Sound.{IsNode, IsClass, Holding, class_in, Holds, AllHold, of_node, of_option, of_dict_ref, with_class_ref, with_dict_ref}
 use Rattle.class_world.proofs.Claims.{all-rest}
 use Rattle.class_world.proofs.Look.{node-read}
 use Rattle.class_world.proofs.OfClasses.{heap-seen}

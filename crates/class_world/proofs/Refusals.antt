@@ -1,14 +1,6 @@
 -- Why a world refuses a class.
-use Rattle.std.proofs.Common.{◌≡◌, ℕ, List, Option, Some, None, Result, Ok, Err, sym, ap, ◌∙◌}
-use Rattle.std.specs.Option.{option_or}
-use Rattle.py_node.specs.declared.raised.Cause.{Cause}
-use Rattle.class_table.specs.declared.fault.ClassFault.{ClassFault}
-use Rattle.class_table.specs.declared.fault.ClassFault.TheVariants.{Refused, RefusedAt, OutOfMemory}
-use Rattle.class_table.specs.Refused.{refusal, WithMemory, refused_layout, refused_order, refused_bases}
-use Rattle.plain_machine.specs.Plain.{Bindings}
-use Rattle.class_world.specs.Held.{Held}
-use Rattle.class_world.specs.Reading.{Reading, plain}
-use Rattle.class_world.specs.NewHeap.{qualified, refused_name, refused_heap}
+use Rattle.class_world.proofs.Below.{ℕ, List, Option, Some, None, Result, Ok, Err, sym, ap, ◌∙◌, option_or, Cause, ClassFault, Refused, RefusedAt, OutOfMemory, refusal, WithMemory, refused_layout, refused_order, refused_bases, Bindings, Held, Reading, plain, qualified, refused_name, refused_heap}
+use Rattle.std.proofs.Common.{◌≡◌}
 use Rattle.class_world.proofs.OfClasses.{bases-seen}
 
 -- the same cause

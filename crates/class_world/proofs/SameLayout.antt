@@ -1,11 +1,6 @@
 -- Classes with one layout: their objects hold the like.
-use Rattle.std.proofs.Common.{◌≡◌, ℕ, Option, ap}
-use Rattle.std.specs.Prelude.{slice_get, option_map, option_and_then}
-use Rattle.py_node.specs.BuiltIns.{all_built_ins}
-use Rattle.class_model.specs.Class.{Classes}
-use Rattle.class_model.specs.Layout.{layout}
-use Rattle.plain_machine.specs.Sound.{holds_as, held_by}
-use Rattle.plain_machine.proofs.NearestByLayout.{nearest-by_layout}
+use Rattle.class_world.proofs.Below.{ℕ, Option, ap, slice_get, option_map, option_and_then, all_built_ins, Classes, layout, holds_as, held_by, nearest-by_layout}
+use Rattle.std.proofs.Common.{◌≡◌}
 
 pub held_by-layout : {K : Type 0} (t u : Classes K) (c d : ℕ) → layout t c ≡ layout u d → held_by t c ≡ held_by u d
 held_by-layout t u c d same =

@@ -1,21 +1,7 @@
 -- Nodes are read alike under classes with equal layouts and as many members, and where nothing stands in any place.
-use Rattle.std.proofs.Common.{◌≡◌, ℕ, suc, List, [], ◌∷◌, length, map, Option, Some, None, refl, ap}
-use Rattle.std.specs.Prelude.{option_and_then}
-use Rattle.std.specs.List.{AllByRecursion}
-use Rattle.py_node.specs.declared.payload.Node.{Node as StoredNode}
-use Rattle.py_node.specs.declared.refs.PyObjectRef.{PyObjectRef}
-use Rattle.py_node.specs.declared.refs.PyStrInterned.{PyStrInterned}
-use Rattle.py_node.specs.Places.{value_at}
-use Rattle.class_model.specs.Class.{Classes, renamed}
-use Rattle.class_model.specs.Layout.{place_count}
-use Rattle.class_model.specs.Offset.{offset_of}
-use Rattle.class_model.proofs.PlaceOffsets.{along-there, offset-alike}
-use Rattle.plain_machine.specs.Plain.{Node, no_members}
-use Rattle.class_log.specs.Change.{Change}
-use Rattle.class_world.specs.Added.{AreEmpty}
-use Rattle.class_world.specs.Held.{Held}
-use Rattle.class_world.specs.Reading.{Reading, places_of, datum, node_of, spelled, plain}
-use Rattle.class_world.specs.Sound.{AreMembers, StandsThere, Holds, AllHold, of_each, of_node}
+use Rattle.class_world.proofs.Below.{ℕ, suc, List, [], length, map, Option, Some, None, refl, ap, option_and_then, AllByRecursion, Node as StoredNode, PyObjectRef, PyStrInterned, value_at, Classes, renamed, place_count, offset_of, along-there, offset-alike, no_members, Change, AreEmpty, Held, Reading, places_of, datum, node_of, spelled, plain, AreMembers, StandsThere, Holds, AllHold, of_each, of_node}
+use Rattle.std.proofs.Common.{◌≡◌, ◌∷◌}
+use Rattle.plain_machine.specs.Plain.{Node}
 use Rattle.class_world.proofs.Claims.{all-first, all-rest}
 use Rattle.class_world.proofs.Growth.{Like, layout-still}
 

@@ -1,29 +1,10 @@
 -- A world whose claims hold stands for a sound plain world.
-use Rattle.std.proofs.Common.{◌≡◌, ℕ, zero, suc, ◌<◌, ◌^◌, List, [], ◌∷◌, ◌++◌, length, get_or, map, Option, Some, None, refl, sym, ap, ◌∙◌, subst, arith}
-use Rattle.std.specs.Prelude.{◌&&◌, slice_get, true, is_some, is_none, option_map, option_and_then}
-use Rattle.std.specs.List.{All}
-use Rattle.std.proofs.lemmas.List.{length-map}
-use Rattle.py_node.specs.declared.refs.PyObjectRef.{PyObjectRef}
-use Rattle.py_node.specs.declared.refs.PyStrInterned.{PyStrInterned}
-use Rattle.py_node.specs.declared.refs.PyTypeRef.{PyTypeRef}
-use Rattle.py_node.specs.declared.built_in.BuiltIn.TheVariants.{Dict, Function, Str}
-use Rattle.py_node.specs.declared.payload.Node.{Node as StoredNode}
-use Rattle.py_node.specs.declared.payload.Payload.{Payload}
+use Rattle.class_world.proofs.Below.{ℕ, zero, suc, List, [], length, get_or, map, Option, Some, None, refl, sym, ap, ◌∙◌, subst, arith, slice_get, is_some, is_none, option_map, option_and_then, All, length-map, PyObjectRef, PyStrInterned, PyTypeRef, Dict, Function, Str, Node as StoredNode, Payload, value_of, AreNamesDistinct, Classes, is_class, has_flag, rekeyed, renamed, AreSound, has_dict, has_dict-renamed, sound-renamed, at-renamed, lin-renamed, is_place-renamed, AClass, is_text, datum_at, class_number, home, optional_class, optional, all_optional, super_object, super_start, nodes_in, classes_in, is_offset, read_offset, set_offset, offsets_in, Key, key_of, key_at, keys_in, AreKeys, AreApart, IsSoundNode, IsSoundScope, IsSound, Scope as HeldScope, Held, Reading, bindings, datum, node_of, scope_of, spelled, plain, Holding, Standing, KeysDiffer, key_in, held_key, class_in, held_class, params_in, held_params, has_value, AreFilled, Holds, AllHold, Sound, home_of, home_at, of_option, of_class_ref, of_node_ref, of_name_ref, of_optional, of_start, of_dict_ref, of_payload, of_node, of_binding, of_scope, of_class, of_dict, of_each}
+use Rattle.std.proofs.Common.{◌≡◌, ◌<◌, ◌^◌, ◌∷◌, ◌++◌}
+use Rattle.std.specs.Prelude.{◌&&◌, true}
 use Rattle.py_node.specs.declared.payload.Payload.TheVariants as payload
-use Rattle.py_node.specs.Attributes.{value_of, AreNamesDistinct}
-use Rattle.class_model.specs.Class.{Classes, is_class, has_flag, rekeyed, renamed}
-use Rattle.class_model.specs.Sound.{AreSound}
-use Rattle.class_model.specs.Dict.{has_dict}
-use Rattle.class_model.proofs.Sound.{has_dict-renamed, sound-renamed}
-use Rattle.class_model.proofs.Renamed.{at-renamed, lin-renamed, is_place-renamed}
-use Rattle.plain_machine.specs.Plain.{AClass, Node}
-use Rattle.plain_machine.specs.World.{is_text, datum_at}
-use Rattle.plain_machine.specs.Objects.{class_number}
-use Rattle.plain_machine.specs.Sound.{home, optional_class, optional, all_optional, super_object, super_start, nodes_in, classes_in, is_offset, read_offset, set_offset, offsets_in, Key, key_of, key_at, keys_in, AreKeys, AreApart, params_in as params_of, IsSoundNode, IsSoundScope, IsSound}
-use Rattle.class_world.specs.declared.scope.Scope.{Scope as HeldScope}
-use Rattle.class_world.specs.Held.{Held}
-use Rattle.class_world.specs.Reading.{Reading, bindings, datum, node_of, scope_of, spelled, plain}
-use Rattle.class_world.specs.Sound.{Holding, Standing, KeysDiffer, key_in, held_key, class_in, held_class, params_in, held_params, has_value, AreFilled, Holds, AllHold, Sound, home_of, home_at, of_option, of_class_ref, of_node_ref, of_name_ref, of_optional, of_start, of_dict_ref, of_payload, of_node, of_binding, of_scope, of_class, of_dict, of_each}
+use Rattle.plain_machine.specs.Plain.{Node}
+use Rattle.plain_machine.specs.Sound.{params_in as params_of}
 use Rattle.class_world.proofs.Claims.{all-first, all-rest, each-get}
 use Rattle.class_world.proofs.Homes.{by_line}
 use Rattle.class_world.proofs.MemberPlaces.{member-is}

@@ -1,34 +1,14 @@
 -- The world of a new machine is sound, and is the plain machine's.
-use Rattle.std.proofs.Common.{◌≡◌, ℕ, zero, suc, ◌+◌, ◌^◌, ◌<◌, ◌≤◌, Bool, true, false, cond, List, [], ◌∷◌, ◌++◌, length, Option, Some, None, refl, sym, ap, subst, arith, map}
-use Rattle.std.specs.Prelude.{◌&&◌, eqb, ltb, is_some, pos, option_map, option_and_then}
-use Rattle.std.specs.List.{IsDistinct}
-use Rattle.std.proofs.lemmas.Bool.{eqb-true, eqb-false, ltb-true}
-use Rattle.py_node.specs.declared.payload.Payload.{Payload}
-use Rattle.py_node.specs.declared.payload.Payload.TheVariants.{Object, Class as ClassPayload, Number}
-use Rattle.py_node.specs.declared.refs.PyStrInterned.{PyStrInterned}
-use Rattle.py_node.specs.declared.refs.PyTypeRef.{PyTypeRef}
-use Rattle.py_node.specs.declared.built_in.BuiltIn.{BuiltIn}
+use Rattle.class_world.proofs.Below.{ℕ, zero, suc, Bool, true, false, cond, List, [], length, Option, Some, None, refl, sym, ap, subst, arith, map, ltb, is_some, pos, option_map, option_and_then, IsDistinct, eqb-true, eqb-false, ltb-true, Payload, Object, Number, PyStrInterned, PyTypeRef, BuiltIn, holds_as, held_by, place_of, base_of, flags_of, built_in_bases, built_in_flags, all_built_ins, has_dict, linear, least_order, arrangements, all_arrangements, known_texts, Class, class_at, is_class, has_flag, lin, renamed, layout_along, member_count, members_in, place_count, built_class, fixed_nodes as plain_fixed_nodes, bare, the_dict, the_none_type, the_not_implemented_type, the_bool, no_members, none, Held, type_ref, plain_node, class_node, start_nodes, Reading, datum, node_of, spelled, plain, Standing, HasFlags, OfStatic, GetsDict, held_class, flags_at, is_marked_heap, Holds, AllHold, SoundWith, of_node, of_dict, of_class, of_each, split}
+use Rattle.std.proofs.Common.{◌≡◌, ◌+◌, ◌^◌, ◌<◌, ◌≤◌, ◌∷◌, ◌++◌}
+use Rattle.std.specs.Prelude.{◌&&◌, eqb}
+use Rattle.py_node.specs.declared.payload.Payload.TheVariants.{Class as ClassPayload}
 use Rattle.py_node.specs.declared.built_in.BuiltIn.TheVariants as built_in
-use Rattle.plain_machine.specs.Sound.{holds_as, held_by}
-use Rattle.py_node.specs.BuiltIns.{place_of, base_of, flags_of, built_in_bases, built_in_flags, all_built_ins}
-use Rattle.class_model.specs.Dict.{has_dict}
-use Rattle.class_model.specs.Order.{linear, least_order, arrangements, all_arrangements}
-use Rattle.py_node.specs.Known.{known_texts}
-use Rattle.class_model.specs.Class.{Class, class_at, is_class, has_flag, lin, renamed}
-use Rattle.class_model.specs.Layout.{layout_along, member_count, members_in, place_count}
-use Rattle.class_model.specs.Start.{built_class}
-use Rattle.plain_machine.specs.Start.{class_node as plain_class_node, fixed_nodes as plain_fixed_nodes, bare}
-use Rattle.plain_machine.specs.Known.{the_dict, the_none_type, the_not_implemented_type, the_bool}
-use Rattle.plain_machine.specs.Plain.{no_members}
-use Rattle.plain_machine.specs.Row.{none}
-use Rattle.class_world.specs.Held.{Held}
-use Rattle.class_world.specs.StartNodes.{type_ref, plain_node, class_node, fixed_nodes, start_nodes}
-use Rattle.class_world.specs.Reading.{Reading, datum, node_of, spelled, plain}
-use Rattle.class_world.specs.Sound.{Standing, HasFlags, OfStatic, GetsDict, held_class, flags_at, is_marked_heap, Holds, AllHold, SoundWith, of_node, of_dict, of_class, of_each}
+use Rattle.plain_machine.specs.Start.{class_node as plain_class_node}
+use Rattle.class_world.specs.StartNodes.{fixed_nodes}
 use Rattle.class_world.proofs.Claims.{each-append, all-append}
 use Rattle.class_world.proofs.Homes.{by_line}
 use Rattle.class_world.proofs.SamePlaces.{none-read}
-use Rattle.class_table.proofs.StartParts.{split}
 
 -- whether each class has a place below the number
 abbrev places_below : ℕ → List BuiltIn → Bool

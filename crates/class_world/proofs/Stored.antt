@@ -1,10 +1,6 @@
 -- Lists that grow by one, and results.
-use Rattle.std.proofs.Common.{◌≡◌, ℕ, zero, suc, ◌+◌, ◌<◌, List, [], ◌∷◌, ◌++◌, length, take, map, refl, sym, ap, ◌∙◌, arith, get_or}
-use Rattle.std.proofs.Common.{Result, Ok, Err, IfOk}
-use Rattle.std.specs.List.{All}
-use Rattle.py_node.specs.declared.refs.PyStrInterned.{PyStrInterned}
-use Rattle.class_world.specs.Held.{Held}
-use Rattle.class_world.specs.Sound.{IsName, AreNames, Holds}
+use Rattle.class_world.proofs.Below.{ℕ, zero, suc, List, [], length, take, map, refl, sym, ap, ◌∙◌, arith, get_or, Result, Ok, Err, IfOk, All, PyStrInterned, Held, IsName, AreNames, Holds}
+use Rattle.std.proofs.Common.{◌≡◌, ◌+◌, ◌<◌, ◌∷◌, ◌++◌}
 
 pub all-push : {A : Type 0} (P : A → Type 0) (xs : List A) (x : A) → All P xs → P x → All P (xs ++ x ∷ [])
 all-push P [] x h p zero d l = p

@@ -1,17 +1,7 @@
 -- Objects as they are put into the world, with their dicts.
-use Rattle.std.specs.Prelude.{◌≡◌, ℕ, ◌+◌, List, [], ◌∷◌, ◌++◌, Option, Some, None, length}
-use Rattle.py_node.specs.declared.refs.PyObjectRef.{PyObjectRef}
-use Rattle.py_node.specs.declared.refs.PyTypeRef.{PyTypeRef}
-use Rattle.py_node.specs.declared.payload.Node.{Node}
-use Rattle.py_node.specs.declared.payload.Payload.{Payload}
+use Rattle.class_world.specs.Below.{ℕ, List, [], Option, Some, None, length, PyObjectRef, PyTypeRef, Node, Payload, PyStrInterned, empty_dict, value_at, Classes, place_count, the_dict, ref}
+use Rattle.std.specs.Prelude.{◌≡◌, ◌+◌, ◌∷◌, ◌++◌}
 use Rattle.py_node.specs.declared.payload.Payload.TheVariants as payload
-use Rattle.py_node.specs.declared.refs.PyStrInterned.{PyStrInterned}
-use Rattle.py_node.specs.Dicts.{empty_dict}
-use Rattle.py_node.specs.Places.{value_at}
-use Rattle.class_model.specs.Class.{Classes}
-use Rattle.class_model.specs.Layout.{place_count}
-use Rattle.plain_machine.specs.Known.{the_dict}
-use Rattle.plain_machine.specs.World.{ref}
 
 -- the places of a new object of a class: as many as the class gives, and nothing in them
 abbrev pub AreEmpty : Classes PyStrInterned → ℕ → List (Option PyObjectRef) → Type 0

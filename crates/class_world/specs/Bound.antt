@@ -1,9 +1,7 @@
 -- Variables and scopes, by the numbers of names.
-use Rattle.std.specs.Prelude.{List, [], ◌∷◌, Option, Some, None}
-use Rattle.py_node.specs.declared.refs.PyObjectRef.{PyObjectRef}
-use Rattle.py_node.specs.declared.refs.PyStrInterned.{PyStrInterned}
-use Rattle.py_node.specs.Attributes.{value_of, with_value, is_same_name}
-use Rattle.plain_machine.specs.World.{or_else_var}
+use Rattle.class_world.specs.Below.{List, [], Option, Some, None, PyObjectRef, PyStrInterned, value_of, is_same_name, or_else_var}
+use Rattle.std.specs.Prelude.{◌∷◌}
+use Rattle.py_node.specs.Attributes.{with_value}
 use Rattle.class_world.specs.declared.scope.Scope.{Scope}
 
 -- a variable of the last of some scopes

@@ -1,38 +1,17 @@
 -- What tasks, answers and steps say of the world's numbers.
-use Rattle.std.specs.Prelude.{◌≡◌, ℕ, ◌+◌, ◌-◌, List, length, [], ◌∷◌, ◌++◌, Result, Ok, Err, IfOk}
-use Rattle.py_node.specs.declared.memory.OutOfMemory.{OutOfMemory}
-use Rattle.py_node.specs.declared.raised.Raised.{Raised as Fault}
-use Rattle.py_node.specs.declared.task.Answer.{Answer}
-use Rattle.py_node.specs.declared.task.Answer.TheVariants.{Value, Done, Number, Truth, Maybe, Objects, Exhausted, Method, Start}
-use Rattle.py_node.specs.declared.task.PyMethod.{PyMethod}
+use Rattle.class_world.specs.Below.{ℕ, List, length, [], Result, Ok, Err, IfOk, OutOfMemory, Raised as Fault, Answer, Value, Done, Number, Truth, Maybe, Objects, Exhausted, Method, Start, PyMethod, Task, EvalTask, AttributeTask, PySetterValue, Assign, Delete, DescriptorTask, CallTask, ClassTask, PyObjectRef, PyStrInterned, OperatorTask, CompareTask, ProtocolTask, ObjectTask, Step, Ask, End, TypeType}
+use Rattle.std.specs.Prelude.{◌≡◌, ◌+◌, ◌-◌, ◌∷◌, ◌++◌}
 use Rattle.py_node.specs.declared.task.PyMethod.TheVariants as method
-use Rattle.py_node.specs.declared.task.Task.{Task}
 use Rattle.py_node.specs.declared.task.Task.TheVariants as task
-use Rattle.py_node.specs.declared.task.EvalTask.{EvalTask}
 use Rattle.py_node.specs.declared.task.EvalTask.TheVariants as eval
-use Rattle.py_node.specs.declared.task.AttributeTask.{AttributeTask}
 use Rattle.py_node.specs.declared.task.AttributeTask.TheVariants as attribute
-use Rattle.py_node.specs.declared.task.PySetterValue.{PySetterValue}
-use Rattle.py_node.specs.declared.task.PySetterValue.TheVariants.{Assign, Delete}
-use Rattle.py_node.specs.declared.task.DescriptorTask.{DescriptorTask}
 use Rattle.py_node.specs.declared.task.DescriptorTask.TheVariants as descriptor
-use Rattle.py_node.specs.declared.task.CallTask.{CallTask}
 use Rattle.py_node.specs.declared.task.CallTask.TheVariants as call
-use Rattle.py_node.specs.declared.task.ClassTask.{ClassTask}
 use Rattle.py_node.specs.declared.task.ClassTask.TheVariants as class
-use Rattle.py_node.specs.declared.refs.PyObjectRef.{PyObjectRef}
-use Rattle.py_node.specs.declared.refs.PyStrInterned.{PyStrInterned}
-use Rattle.py_node.specs.declared.task.OperatorTask.{OperatorTask}
 use Rattle.py_node.specs.declared.task.OperatorTask.TheVariants as operator
-use Rattle.py_node.specs.declared.protocol.CompareTask.{CompareTask}
 use Rattle.py_node.specs.declared.protocol.CompareTask.TheVariants as compare
-use Rattle.py_node.specs.declared.protocol.ProtocolTask.{ProtocolTask}
 use Rattle.py_node.specs.declared.protocol.ProtocolTask.TheVariants as protocol
-use Rattle.py_node.specs.declared.protocol.ObjectTask.{ObjectTask}
 use Rattle.py_node.specs.declared.protocol.ObjectTask.TheVariants as object
-use Rattle.py_node.specs.declared.task.Step.{Step}
-use Rattle.py_node.specs.declared.task.Step.TheVariants.{Ask, End}
-use Rattle.py_node.specs.declared.built_in.BuiltIn.TheVariants.{TypeType}
 use Rattle.class_world.specs.Held.{Held}
 use Rattle.class_world.specs.Sound.{AllHold, Lasts, Grows, Claim, IsNode, AreNodes, IsName, IsClass, IsOf, IsExpression, of_binding, of_each, of_option, of_node_ref}
 

@@ -1,12 +1,6 @@
 -- Functions as they are stored, and the classes that define them; and properties with other parts.
-use Rattle.std.specs.Prelude.{Option, Some, None}
-use Rattle.std.specs.Box.{with_value}
-use Rattle.py_node.specs.declared.payload.Function.{Function}
-use Rattle.py_node.specs.declared.payload.Node.{Node}
-use Rattle.py_node.specs.declared.payload.Payload.{Payload}
+use Rattle.class_world.specs.Below.{Option, Some, None, with_value, Function, Node, Payload, PyProperty, PyTypeRef}
 use Rattle.py_node.specs.declared.payload.Payload.TheVariants as payload
-use Rattle.py_node.specs.declared.payload.PyProperty.{PyProperty}
-use Rattle.py_node.specs.declared.refs.PyTypeRef.{PyTypeRef}
 
 abbrev pub or_class_ref : Option PyTypeRef → PyTypeRef → Option PyTypeRef
 or_class_ref None c = Some c

@@ -1,6 +1,5 @@
 -- The objects that every world has.
-use Rattle.std.specs.Prelude.{ℕ}
-use Rattle.py_node.specs.BuiltIns.{fixed_none, fixed_not_implemented, fixed_false, fixed_true}
+use Rattle.class_world.specs.Below.{ℕ, fixed_none, fixed_not_implemented, fixed_false, fixed_true}
 use Rattle.class_world.specs.declared.built_ins.Fixed.{Fixed}
 use Rattle.class_world.specs.declared.built_ins.Fixed.TheVariants.{None, NotImplemented, False, True}
 

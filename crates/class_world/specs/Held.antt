@@ -1,13 +1,5 @@
 -- What a world holds.
-use Rattle.std.specs.Prelude.{ℕ, List, length}
-use Rattle.py_node.specs.declared.refs.PyObjectRef.{PyObjectRef}
-use Rattle.py_node.specs.declared.refs.PyStrInterned.{PyStrInterned}
-use Rattle.py_node.specs.declared.payload.Node.{Node}
-use Rattle.py_node.specs.declared.payload.Form.{Form}
-use Rattle.py_node.specs.Replies.{Started}
-use Rattle.class_model.specs.Class.{Class}
-use Rattle.class_table.specs.Start.{Numbered}
-use Rattle.class_log.specs.Change.{Change}
+use Rattle.class_world.specs.Below.{ℕ, List, length, PyObjectRef, PyStrInterned, Node, Form, Started, Class, Numbered, Change}
 use Rattle.class_world.specs.declared.scope.Scope.{Scope}
 
 -- the tables of names and of expressions, the nodes, the classes, the variables, the scopes of running bodies, the bodies that were started, and the changes of classes that were accepted, in order

@@ -1,14 +1,8 @@
 -- The entries of dicts as they are stored.
-use Rattle.std.specs.Prelude.{◌≡◌, Bool, false, List, [], ◌∷◌, map, Option, Some, None, slice_get, string_bytes}
-use Rattle.py_node.specs.declared.refs.PyObjectRef.{PyObjectRef}
-use Rattle.py_node.specs.declared.refs.PyStrInterned.{PyStrInterned}
-use Rattle.py_node.specs.declared.payload.Node.{Node}
-use Rattle.py_node.specs.declared.payload.Payload.{Payload}
+use Rattle.class_world.specs.Below.{Bool, false, List, [], map, Option, Some, None, slice_get, string_bytes, PyObjectRef, PyStrInterned, Node, Payload, PlainDict, empty_dict, Text, is_text, or_empty}
+use Rattle.std.specs.Prelude.{◌≡◌, ◌∷◌}
 use Rattle.py_node.specs.declared.payload.Payload.TheVariants as payload
-use Rattle.py_node.specs.Dicts.{PlainDict, empty_dict}
-use Rattle.py_node.specs.Tree.{Text}
 use Rattle.plain_machine.specs.Dicts.{Entries}
-use Rattle.plain_machine.specs.World.{is_text, or_empty}
 use Rattle.class_world.specs.Held.{Held}
 use Rattle.class_world.specs.Sound.{Claim, AreNodes, CanBeKeys, KeysDiffer, KeysRead}
 

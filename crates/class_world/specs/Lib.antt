@@ -1,3 +1,4 @@
+pub mod Below
 pub mod Fixed
 pub mod Held
 pub mod Reading

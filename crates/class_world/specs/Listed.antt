@@ -1,10 +1,7 @@
 -- The items of lists, as they are read and as they are stored.
-use Rattle.std.specs.Prelude.{◌≡◌, List, [], Option, Some}
-use Rattle.py_node.specs.declared.refs.PyObjectRef.{PyObjectRef}
-use Rattle.py_node.specs.declared.payload.Node.{Node}
-use Rattle.py_node.specs.declared.payload.Payload.{Payload}
+use Rattle.class_world.specs.Below.{List, [], Option, Some, PyObjectRef, Node, Payload, Datum, ATuple, AList}
+use Rattle.std.specs.Prelude.{◌≡◌}
 use Rattle.py_node.specs.declared.payload.Payload.TheVariants as payload
-use Rattle.plain_machine.specs.Plain.{Datum, ATuple, AList}
 
 -- the items of a tuple or a list
 abbrev pub items_in : Option Datum → List PyObjectRef

@@ -1,7 +1,6 @@
 -- What a world is after a text got a name.
-use Rattle.std.specs.Prelude.{◌≡◌, [], ◌∷◌, ◌++◌}
-use Rattle.py_node.specs.Texts.{Stands}
-use Rattle.py_node.specs.Tree.{Text}
+use Rattle.class_world.specs.Below.{[], Stands, Text}
+use Rattle.std.specs.Prelude.{◌≡◌, ◌∷◌, ◌++◌}
 use Rattle.class_world.specs.Held.{Held}
 
 -- a text that has a name keeps it, and nothing changes; any other is added last, and nothing else changes

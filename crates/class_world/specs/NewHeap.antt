@@ -1,22 +1,7 @@
 -- Classes that scripts make.
-use Rattle.std.specs.Option.{option_or}
-use Rattle.std.specs.Prelude.{◌≡◌, ℕ, Bool, true, false, cond, List, [], ◌∷◌, ◌++◌, map, Option, Some, None, option_map}
-use Rattle.std.specs.Global.{Vec}
-use Rattle.py_node.specs.declared.raised.Cause.{Cause}
-use Rattle.py_node.specs.declared.raised.Cause.TheVariants.{QualnameType}
-use Rattle.py_node.specs.declared.refs.PyObjectRef.{PyObjectRef}
-use Rattle.py_node.specs.declared.refs.PyStrInterned.{PyStrInterned}
-use Rattle.py_node.specs.declared.refs.PyTypeRef.{PyTypeRef}
-use Rattle.py_node.specs.Attributes.{value_of}
-use Rattle.py_node.specs.declared.payload.Node.{Node}
+use Rattle.class_world.specs.Below.{option_or, ℕ, Bool, true, false, cond, List, [], map, Option, Some, None, option_map, Vec, Cause, QualnameType, PyObjectRef, PyStrInterned, PyTypeRef, value_of, Node, Text, refused_bases, Qualname, known_text, Datum, AText, Bindings, PlainWorld, is_text, datum_at, Classes}
+use Rattle.std.specs.Prelude.{◌≡◌, ◌∷◌, ◌++◌}
 use Rattle.py_node.specs.declared.payload.Payload.TheVariants as payload
-use Rattle.py_node.specs.Tree.{Text}
-use Rattle.class_table.specs.Refused.{refused_bases}
-use Rattle.py_node.specs.declared.known.Known.TheVariants.{Qualname}
-use Rattle.py_node.specs.Known.{known_text}
-use Rattle.plain_machine.specs.Plain.{Datum, AText, Bindings, PlainWorld}
-use Rattle.plain_machine.specs.World.{is_text, datum_at}
-use Rattle.class_model.specs.Class.{Classes}
 use Rattle.class_world.specs.Added.{AreEmpty}
 use Rattle.class_world.specs.Reading.{Reading, spelled}
 use Rattle.class_world.specs.Sound.{Claim, AreNames}

@@ -1,12 +1,6 @@
 -- What the contracts of rows say, of any group of rows.
-use Rattle.std.specs.Prelude.{◌≡◌, ◌++◌, List, Result, IfOk}
-use Rattle.py_node.specs.declared.memory.OutOfMemory.{OutOfMemory}
-use Rattle.py_node.specs.declared.raised.Raised.{Raised as Fault}
-use Rattle.py_node.specs.declared.task.Answer.{Answer}
-use Rattle.py_node.specs.declared.task.Step.{Step}
-use Rattle.py_node.specs.declared.task.Step.TheVariants.{Ask, End}
-use Rattle.plain_machine.specs.Plain.{PlainWorld, Told, Said, Asks, Ends, Saying}
-use Rattle.plain_machine.specs.Rows.{Pending, Alike, fresh, given}
+use Rattle.class_world.specs.Below.{List, Result, IfOk, OutOfMemory, Raised as Fault, Answer, Step, Ask, End, PlainWorld, Told, Said, Asks, Ends, Saying, Pending, Alike, fresh, given}
+use Rattle.std.specs.Prelude.{◌≡◌, ◌++◌}
 use Rattle.class_world.specs.declared.world.World.{World}
 use Rattle.class_world.specs.Reading.{Reading, Reads, plain, task_of, ended_of}
 use Rattle.class_world.specs.Held.{Held}

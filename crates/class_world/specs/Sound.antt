@@ -1,34 +1,11 @@
 -- What is said of numbers, and that all that a world says of them is so.
-use Rattle.std.specs.Int.RustNames.{bit_and}
-use Rattle.std.specs.Prelude.{◌≡◌, ℕ, ◌<◌, ◌≤◌, Bool, true, false, ◌&&◌, ◌==◌, List, [], ◌∷◌, ◌++◌, Option, Some, None, is_some, is_none, length, map, slice_get, option_map, option_and_then, string_bytes}
-use Rattle.std.specs.List.{All, AllByRecursion}
-use Rattle.py_node.specs.declared.refs.PyObjectRef.{PyObjectRef}
-use Rattle.py_node.specs.declared.refs.PyStrInterned.{PyStrInterned}
-use Rattle.py_node.specs.declared.refs.PyTypeRef.{PyTypeRef}
-use Rattle.py_node.specs.declared.dict.PyDictKey.{PyDictKey}
+use Rattle.class_world.specs.Below.{bit_and, ℕ, Bool, true, false, List, [], Option, Some, None, is_some, is_none, length, map, slice_get, option_map, option_and_then, string_bytes, All, AllByRecursion, PyObjectRef, PyStrInterned, PyTypeRef, PyDictKey, Function, MemberDescriptor, PyProperty, Node, Payload, Form, value_of, is_same_name, AreNamesDistinct, known_texts, BuiltIn, place_of, flags_of, built_in_count, fixed_node_count, heap_type, method_descriptor, Class, Classes, class_at, is_class, has_flag, has_dict, place_count, is_heap_at, the_dict, the_none_type, none, holds_as, held_by, is_offset, read_offset, set_offset, Key, NumberKey, TextKey, AreKeys, Keeps, IsLogged}
+use Rattle.std.specs.Prelude.{◌≡◌, ◌<◌, ◌≤◌, ◌&&◌, ◌==◌, ◌∷◌, ◌++◌}
 use Rattle.py_node.specs.declared.dict.PyDictKey.TheVariants as dict_key
-use Rattle.py_node.specs.declared.payload.Function.{Function}
-use Rattle.py_node.specs.declared.payload.MemberDescriptor.{MemberDescriptor}
-use Rattle.py_node.specs.declared.payload.PyProperty.{PyProperty}
-use Rattle.py_node.specs.declared.payload.Node.{Node}
-use Rattle.py_node.specs.declared.payload.Payload.{Payload}
 use Rattle.py_node.specs.declared.payload.Payload.TheVariants as payload
-use Rattle.py_node.specs.declared.payload.Form.{Form}
 use Rattle.py_node.specs.declared.payload.Form.TheVariants as form
-use Rattle.py_node.specs.Attributes.{value_of, is_same_name, AreNamesDistinct}
-use Rattle.py_node.specs.Known.{known_texts}
-use Rattle.py_node.specs.declared.built_in.BuiltIn.{BuiltIn}
 use Rattle.py_node.specs.declared.built_in.BuiltIn.TheVariants as built_in
-use Rattle.py_node.specs.BuiltIns.{place_of, flags_of, built_in_count, fixed_node_count, has_dict as dict_flag, heap_type, method_descriptor}
-use Rattle.class_model.specs.Class.{Class, Classes, class_at, is_class, has_flag}
-use Rattle.class_model.specs.Dict.{has_dict}
-use Rattle.class_model.specs.Layout.{place_count}
-use Rattle.class_model.specs.Slot.{is_heap_at}
-use Rattle.plain_machine.specs.Known.{the_dict, the_none_type}
-use Rattle.plain_machine.specs.Row.{none}
-use Rattle.plain_machine.specs.Sound.{holds_as, held_by, is_offset, read_offset, set_offset, Key, NumberKey, TextKey, AreKeys}
-use Rattle.class_log.specs.Following.{Keeps}
-use Rattle.class_log.specs.Logged.{IsLogged}
+use Rattle.py_node.specs.BuiltIns.{has_dict as dict_flag}
 use Rattle.class_world.specs.declared.scope.Scope.{Scope}
 use Rattle.class_world.specs.Held.{Held}
 use Rattle.class_world.specs.Tables.{AreBelow}

@@ -1,22 +1,8 @@
 -- The nodes of a new machine, as they are stored: those that are fixed, and those that own attributes of built-in classes hold.
-use Rattle.std.specs.Prelude.{pos, cond, List, [], ◌∷◌, ◌++◌, Some, None, map, fold}
-use Rattle.py_node.specs.declared.attr.Attr.{Attr}
-use Rattle.py_node.specs.declared.attr.Attr.TheVariants.{New, Method as MethodAttr, ClassMethod as ClassMethodAttr, ReadOnly, Settable, Part, SettablePart, NoHash}
-use Rattle.py_node.specs.declared.built_in.BuiltIn.{BuiltIn}
-use Rattle.py_node.specs.declared.payload.Node.{Node}
-use Rattle.py_node.specs.declared.payload.Payload.{Payload}
-use Rattle.py_node.specs.declared.entry.NativeEntry.TheVariants.{Getter, Setter, GetterOf, SetterOf, NewWrapper}
-use Rattle.py_node.specs.declared.known.Known.{Known}
-use Rattle.py_node.specs.declared.payload.Payload.TheVariants.{Object, Class, Number, NativeFunction, MethodDescriptor, GetSet}
-use Rattle.py_node.specs.declared.refs.PyStrInterned.{PyStrInterned}
-use Rattle.py_node.specs.declared.refs.PyTypeRef.{PyTypeRef}
-use Rattle.py_node.specs.BuiltIns.{place_of, all_built_ins}
-use Rattle.py_node.specs.Known.{number_of}
-use Rattle.py_node.specs.OwnAttrs.{own_attrs}
-use Rattle.plain_machine.specs.Known.{the_type, the_none_type, the_not_implemented_type, the_bool}
-use Rattle.plain_machine.specs.Objects.{object_method, class_method}
-use Rattle.plain_machine.specs.Start.{attr_class, is_made}
-use Rattle.plain_machine.specs.World.{ref}
+use Rattle.class_world.specs.Below.{pos, cond, List, [], Some, None, map, fold, Attr, New, ClassMethod as ClassMethodAttr, ReadOnly, Settable, Part, SettablePart, NoHash, BuiltIn, Node, Payload, Getter, Setter, GetterOf, SetterOf, NewWrapper, Known, Object, NativeFunction, MethodDescriptor, GetSet, PyStrInterned, PyTypeRef, place_of, all_built_ins, number_of, own_attrs, the_type, the_none_type, the_not_implemented_type, the_bool, object_method, class_method, attr_class, is_made, ref}
+use Rattle.std.specs.Prelude.{◌∷◌, ◌++◌}
+use Rattle.py_node.specs.declared.attr.Attr.TheVariants.{Method as MethodAttr}
+use Rattle.py_node.specs.declared.payload.Payload.TheVariants.{Class, Number}
 
 abbrev pub type_ref : PyTypeRef
 type_ref = record { 0 = the_type }

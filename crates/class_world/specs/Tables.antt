@@ -1,7 +1,6 @@
 -- The store of expressions: the parts of each stand before it.
-use Rattle.std.specs.Prelude.{◌≡◌, ℕ, ◌<◌, List, Some, slice_get}
-use Rattle.std.specs.List.{All}
-use Rattle.py_node.specs.declared.payload.Form.{Form}
+use Rattle.class_world.specs.Below.{ℕ, List, Some, slice_get, All, Form}
+use Rattle.std.specs.Prelude.{◌≡◌, ◌<◌}
 use Rattle.py_node.specs.declared.payload.Form.TheVariants as form
 
 -- the expression's parts have numbers below n

@@ -1,10 +1,10 @@
 //! Arguments and keywords, as tasks take them.
 
-ghost use Rattle.std.specs.Prelude.{◌≡◌, [], ◌∷◌, map, IfOk};
+ghost use Rattle.class_world.specs.Below.{[], map, IfOk, two_of, filled};
+ghost use Rattle.std.specs.Prelude.{◌≡◌, ◌∷◌};
 ghost use Rattle.class_world.specs.Held.{Held};
 ghost use Rattle.class_world.specs.Reading.{Reading, spelled, bindings};
 ghost use Rattle.class_world.specs.Sound.{AllHold, AreNames, AreNodes, Holds, IsNode, of_binding, of_each};
-ghost use Rattle.plain_machine.specs.Args.{two_of, filled};
 
 use py_node::task::{Args, Keywords};
 use py_node::{OutOfMemory, PyAttributes, PyObjectRef, PyStrInterned};

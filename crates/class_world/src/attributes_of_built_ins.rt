@@ -1,10 +1,8 @@
 //! The objects that the own attributes of the built-in classes hold, as a new machine gets them.
 
-ghost use Rattle.std.specs.Prelude.{◌≡◌, fold, Some, None, IfOk, OnOk};
-ghost use Rattle.py_node.specs.BuiltIns.{place_of};
-ghost use Rattle.py_node.specs.OwnAttrs.{own_attrs};
+ghost use Rattle.class_world.specs.Below.{fold, Some, None, IfOk, OnOk, place_of, own_attrs, attr_class};
+ghost use Rattle.std.specs.Prelude.{◌≡◌};
 ghost use Rattle.py_node.specs.declared.payload.Payload.TheVariants as stored;
-ghost use Rattle.plain_machine.specs.Start.{attr_class};
 ghost use Rattle.class_world.specs.StartNodes.{own_payload, own_node, with_own_node, opening_nodes as the_opening_nodes};
 
 use crate::start::{plain_node, start_nodes};

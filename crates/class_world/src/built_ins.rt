@@ -1,9 +1,7 @@
 //! What every world has: the built-in classes, None, NotImplemented, False and True.
 
 ghost use Rattle.std.specs.Prelude.{◌≡◌};
-ghost use Rattle.plain_machine.specs.Row.{truth};
-ghost use Rattle.plain_machine.specs.Sound.{holds_as};
-ghost use Rattle.py_node.specs.BuiltIns.{place_of};
+ghost use Rattle.class_world.specs.Below.{truth, holds_as, place_of};
 ghost use Rattle.class_world.specs.Fixed.{number_of_fixed};
 ghost use Rattle.class_world.specs.Sound.{IsNode, IsClass, IsOf, Holds};
 

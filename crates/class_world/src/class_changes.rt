@@ -1,16 +1,8 @@
 //! Another name and other bases for a class of a world.
 
-ghost use Rattle.std.specs.Prelude.{◌≡◌, ◌+◌, ◌*◌, ◌≤◌, ◌++◌, ◌∷◌, [], true, length, OnOk, OnErr, IsSome};
-ghost use Rattle.class_model.specs.Change.{with_bases};
-ghost use Rattle.class_model.specs.Class.{class_at as class_numbered};
-ghost use Rattle.class_model.specs.Slot.{is_heap_at};
-ghost use Rattle.class_table.specs.Descendants.{descendants};
-ghost use Rattle.class_table.specs.Keys.{numbers};
-ghost use Rattle.class_table.specs.Refused.{WithMemory};
-ghost use Rattle.class_table.specs.Settle.{line_places};
-ghost use Rattle.class_table.specs.Rebase.{refused_change, refused_rebase, told, IsToldFirst};
-ghost use Rattle.class_log.specs.Change.{SetBases as SetBasesChange};
-ghost use Rattle.plain_machine.specs.Change.{SetBases, SetName, apply};
+ghost use Rattle.class_world.specs.Below.{[], true, length, OnOk, OnErr, IsSome, with_bases, class_at as class_numbered, is_heap_at, descendants, numbers, WithMemory, line_places, refused_change, refused_rebase, told, IsToldFirst, SetBases, SetName, apply};
+ghost use Rattle.std.specs.Prelude.{◌≡◌, ◌+◌, ◌*◌, ◌≤◌, ◌++◌, ◌∷◌};
+ghost use Rattle.class_table.specs.ClassLog.Change.{SetBases as SetBasesChange};
 ghost use Rattle.class_world.specs.Reading.{Reading, Reads, plain};
 ghost use Rattle.class_world.specs.Sound.{IsClass, Holds, AllHold, Grows, of_class_ref, of_each};
 

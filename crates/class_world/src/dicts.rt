@@ -1,15 +1,8 @@
 //! The dicts of objects: what stands in one under a name, and how that is set and taken out.
 #![tactic(auto, unfolding(crate::specs::Reading::plain))]
 
-ghost use Rattle.std.specs.Prelude.{◌≡◌, ◌<◌, ◌∷◌, ◌++◌, [], length, map, position, None, IfSome, OnOk};
-ghost use Rattle.std.specs.List.{remove};
-ghost use Rattle.py_node.specs.declared.built_in.BuiltIn.TheVariants.{Dict, Str};
-ghost use Rattle.py_node.specs.Dicts.{is_same_key, put_at};
-ghost use Rattle.py_node.specs.Texts.{AreDistinct};
-ghost use Rattle.plain_machine.specs.Plain.{AText};
-ghost use Rattle.plain_machine.specs.World.{datum_at, with_node, next_node};
-ghost use Rattle.plain_machine.specs.Known.{the_str};
-ghost use Rattle.plain_machine.specs.Dicts.{dict_of, entries_in, value_in, own_value, with_entries, with_value_in, without_value_in};
+ghost use Rattle.class_world.specs.Below.{[], length, map, position, None, IfSome, OnOk, remove, Dict, Str, is_same_key, put_at, AreDistinct, AText, datum_at, with_node, next_node, the_str, dict_of, entries_in, value_in, own_value, with_entries, with_value_in, without_value_in};
+ghost use Rattle.std.specs.Prelude.{◌≡◌, ◌<◌, ◌∷◌, ◌++◌};
 ghost use Rattle.class_world.specs.Keyed.{held_dict, held_text, is_held_key, of_keyed};
 ghost use Rattle.class_world.specs.Reading.{Reading, Reads, plain};
 ghost use Rattle.class_world.specs.Sound.{IsNode, IsClass, IsOf, IsName, Holding, KeysDiffer, KeysRead, Holds, AllHold, Grows};

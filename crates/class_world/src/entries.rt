@@ -1,8 +1,7 @@
 //! The dicts that nodes are, by the places of their keys.
 
-ghost use Rattle.std.specs.Prelude.{◌≡◌, ◌<◌, None, length, position, OnOk, OnErr};
-ghost use Rattle.py_node.specs.declared.built_in.BuiltIn.TheVariants.{Dict};
-ghost use Rattle.py_node.specs.Dicts.{dict_pushed, dict_put, dict_removed, is_same_key};
+ghost use Rattle.class_world.specs.Below.{None, length, position, OnOk, OnErr, Dict, dict_pushed, dict_put, dict_removed, is_same_key};
+ghost use Rattle.std.specs.Prelude.{◌≡◌, ◌<◌};
 ghost use Rattle.class_world.specs.Sound.{home_of};
 ghost use Rattle.class_world.specs.Keyed.{dict_in, HasOther};
 

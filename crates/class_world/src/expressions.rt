@@ -1,6 +1,7 @@
 //! The store of expressions.
 
-ghost use Rattle.std.specs.Prelude.{◌≡◌, IfOk, Some, OnErr, slice_get};
+ghost use Rattle.class_world.specs.Below.{IfOk, Some, OnErr, slice_get};
+ghost use Rattle.std.specs.Prelude.{◌≡◌};
 ghost use Rattle.class_world.specs.Reading.{Reading, Reads, plain, form_tree};
 ghost use Rattle.class_world.specs.Sound.{IsExpression, Holds, Grows, AllHold, of_form};
 

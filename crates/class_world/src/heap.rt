@@ -1,20 +1,7 @@
 //! Classes as scripts make and change them, and the functions that they define.
 
-ghost use Rattle.std.specs.Prelude.{◌≡◌, ℕ, true, ◌<◌, ◌≤◌, ◌∷◌, [], ◌++◌, length, vec_len, vec_capacity, Some, IfOk, IfSome, OnOk, OnErr};
-ghost use Rattle.std.specs.Option.{option_or};
-ghost use Rattle.py_node.specs.declared.built_in.BuiltIn.{BuiltIn};
-ghost use Rattle.py_node.specs.declared.built_in.BuiltIn.TheVariants.{TypeType};
-ghost use Rattle.class_model.specs.Change.{with_class};
-ghost use Rattle.class_model.specs.Class.{is_class};
-ghost use Rattle.class_model.specs.Layout.{best_of};
-ghost use Rattle.class_model.specs.Numbers.{limit};
-ghost use Rattle.class_model.specs.Dict.{heap_class};
-ghost use Rattle.class_table.specs.Keys.{numbers, table_keys, slot_names};
-ghost use Rattle.class_table.specs.Refused.{refusal, WithMemory, IsEarly, AreThere, refused_attr, refused_layout, refused_bases, NamesNoClass};
-ghost use Rattle.class_log.specs.Change.{SetOwn};
-ghost use Rattle.class_log.specs.Logged.{IsLogged, made_by_script};
-ghost use Rattle.plain_machine.specs.Objects.{with_definer};
-ghost use Rattle.plain_machine.specs.World.{ref, text_keys, datum_at, with_new_class, with_own_attr};
+ghost use Rattle.class_world.specs.Below.{ℕ, true, [], length, vec_len, vec_capacity, Some, IfOk, IfSome, OnOk, OnErr, option_or, BuiltIn, TypeType, with_class, is_class, best_of, limit, heap_class, numbers, table_keys, slot_names, refusal, WithMemory, IsEarly, AreThere, refused_attr, refused_layout, refused_bases, NamesNoClass, SetOwn, IsLogged, made_by_script, with_definer, ref, text_keys, datum_at, with_new_class, with_own_attr};
+ghost use Rattle.std.specs.Prelude.{◌≡◌, ◌<◌, ◌≤◌, ◌∷◌, ◌++◌};
 ghost use Rattle.class_world.specs.NewHeap.{HasClassNode, class_node, holds_text, qualified, refused_name, refused_heap, slot_texts, of_slots};
 ghost use Rattle.class_world.specs.Reading.{Reading, Reads, bindings, plain};
 ghost use Rattle.class_world.specs.Sound.{IsNode, IsClass, IsOf, IsName, Holds, AllHold, Grows, of_binding, of_class_ref, of_each};
@@ -22,7 +9,7 @@ ghost use Rattle.class_world.specs.Sound.{IsNode, IsClass, IsOf, IsName, Holds, 
 use crate::definer::define;
 use crate::places::empty_places;
 use crate::world::World;
-use class_log::ClassLog;
+use class_table::class_log::ClassLog;
 use class_table::{ClassFault, ClassTable};
 use py_node::{
     Cause, Known, Node, OutOfMemory, Payload, PyAttributes, PyMembers, PyObjectRef, PyStrInterned,

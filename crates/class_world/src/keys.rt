@@ -1,11 +1,8 @@
 //! The keys of dicts: which objects can be keys, how they are stored, and dicts with a value under one.
 #![tactic(auto, unfolding(crate::specs::Reading::plain))]
 
-ghost use Rattle.std.specs.Prelude.{◌≡◌, List, ℕ, [], ◌∷◌, true, is_some, IfOk, IfSome, IfNone, OnErr, Some, slice_get};
-ghost use Rattle.py_node.specs.declared.dict.PyDictKey.{PyDictKey as StoredKey};
-ghost use Rattle.py_node.specs.Texts.{AreDistinct};
-ghost use Rattle.plain_machine.specs.Dicts.{with_entry, entries_from};
-ghost use Rattle.plain_machine.specs.Sound.{key_at};
+ghost use Rattle.class_world.specs.Below.{List, ℕ, [], true, is_some, IfOk, IfSome, IfNone, OnErr, Some, slice_get, PyDictKey as StoredKey, AreDistinct, with_entry, entries_from, key_at};
+ghost use Rattle.std.specs.Prelude.{◌≡◌, ◌∷◌};
 ghost use Rattle.class_world.specs.Keyed.{of_keyed, of_pairs};
 ghost use Rattle.class_world.specs.Reading.{Reading, Reads, plain};
 ghost use Rattle.class_world.specs.Sound.{IsNode, CanBeKeys, KeysRead, NamesKey, Holds, AllHold, Grows, key_in, held_key};

@@ -1,9 +1,7 @@
 //! How long tuples, lists and dicts can be.
 
-ghost use Rattle.std.specs.Prelude.{◌≡◌, length, nat_le};
-ghost use Rattle.plain_machine.specs.Dicts.{entries_in, has_place};
-ghost use Rattle.plain_machine.specs.Row.{most_items};
-ghost use Rattle.plain_machine.specs.World.{datum_at};
+ghost use Rattle.class_world.specs.Below.{length, nat_le, entries_in, has_place, most_items, datum_at};
+ghost use Rattle.std.specs.Prelude.{◌≡◌};
 ghost use Rattle.class_world.specs.Reading.{Reading, Reads, plain};
 ghost use Rattle.class_world.specs.Sound.{IsName, IsNode, Holds};
 

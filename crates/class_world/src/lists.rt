@@ -1,10 +1,7 @@
 //! Lists whose items change where they stand, so that a change costs what it touches and not what the list has.
 
-ghost use Rattle.std.specs.Prelude.{◌≡◌, ◌<◌, ◌≤◌, ◌++◌, length, slice_set, OnErr, OnOk};
-ghost use Rattle.std.specs.List.{remove, splice};
-ghost use Rattle.plain_machine.specs.Plain.{AList};
-ghost use Rattle.plain_machine.specs.World.{datum_at};
-ghost use Rattle.plain_machine.specs.Objects.{with_datum};
+ghost use Rattle.class_world.specs.Below.{length, slice_set, OnErr, OnOk, remove, splice, AList, datum_at, with_datum};
+ghost use Rattle.std.specs.Prelude.{◌≡◌, ◌<◌, ◌≤◌, ◌++◌};
 ghost use Rattle.py_node.specs.declared.built_in.BuiltIn.TheVariants.{List};
 ghost use Rattle.class_world.specs.Listed.{HasOtherItems, items_in, items_of};
 ghost use Rattle.class_world.specs.Reading.{Reading, Reads, plain};

@@ -1,9 +1,7 @@
 //! The members of objects: what stands in the places that offsets stand for, and how it is set.
 
-ghost use Rattle.std.specs.Prelude.{◌≡◌, ℕ, ◌<◌, true, Some, IfSome, length, slice_set};
-ghost use Rattle.class_model.specs.Layout.{place_at};
-ghost use Rattle.plain_machine.specs.Members.{value_at_place, with_value_at_place};
-ghost use Rattle.plain_machine.specs.Objects.{is_instance};
+ghost use Rattle.class_world.specs.Below.{ℕ, true, Some, IfSome, length, slice_set, place_at, value_at_place, with_value_at_place, is_instance};
+ghost use Rattle.std.specs.Prelude.{◌≡◌, ◌<◌};
 ghost use Rattle.class_world.specs.Claims.{of_setter};
 ghost use Rattle.class_world.specs.Reading.{Reading, Reads, plain, setter_value};
 ghost use Rattle.class_world.specs.Sound.{IsNode, IsClass, IsOffset, Holds, AllHold, Grows, with_members};

@@ -1,7 +1,7 @@
 //! Names: their numbers and their texts.
 
-ghost use Rattle.std.specs.Prelude.{◌≡◌, IfOk, OnOk, OnErr, string_bytes};
-ghost use Rattle.py_node.specs.Known.{known_text, number_of};
+ghost use Rattle.class_world.specs.Below.{IfOk, OnOk, OnErr, string_bytes, known_text, number_of};
+ghost use Rattle.std.specs.Prelude.{◌≡◌};
 ghost use Rattle.class_world.specs.Names.{AddsName};
 ghost use Rattle.class_world.specs.Reading.{Reading, Reads, plain};
 ghost use Rattle.class_world.specs.Sound.{IsName, Holds, Grows};

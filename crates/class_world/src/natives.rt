@@ -4,7 +4,7 @@ ghost use Rattle.std.specs.Prelude.{◌≡◌};
 ghost use Rattle.class_world.specs.Claims.{of_args, of_task};
 ghost use Rattle.class_world.specs.Reading.{Reading, bindings, task_of};
 ghost use Rattle.class_world.specs.Sound.{AllHold};
-ghost use Rattle.plain_machine.specs.Native.{native_task};
+ghost use Rattle.class_world.specs.Below.{native_task};
 
 use crate::world::World;
 use py_node::task::{Args, Keywords};

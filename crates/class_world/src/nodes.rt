@@ -1,16 +1,12 @@
 //! Objects: what is read of one, how one is made, and how what it holds is changed.
 
-ghost use Rattle.std.specs.Prelude.{◌≡◌, is_some, Some, None, IfOk, OnOk, OnErr, IfSome, ◌<◌, ◌∷◌, [], ◌++◌, suc, length, vec_len, vec_capacity, false};
-ghost use Rattle.plain_machine.specs.World.{with_node, next_node, has_dict, class_at, datum_at, number_of, ref};
-ghost use Rattle.class_model.specs.Dict.{has_dict as class_has_dict};
-ghost use Rattle.plain_machine.specs.Known.{the_dict};
-ghost use Rattle.py_node.specs.declared.built_in.BuiltIn.TheVariants.{Dict, Property, TypeType};
+ghost use Rattle.class_world.specs.Below.{is_some, Some, None, IfOk, OnOk, OnErr, IfSome, [], suc, length, vec_len, vec_capacity, false, with_node, next_node, datum_at, ref, has_dict as class_has_dict, the_dict, Dict, Property, TypeType, AProperty, with_datum};
+ghost use Rattle.std.specs.Prelude.{◌≡◌, ◌<◌, ◌∷◌, ◌++◌};
+ghost use Rattle.plain_machine.specs.World.{has_dict, class_at, number_of};
 ghost use Rattle.class_world.specs.Reading.{Reading, Reads, datum, plain};
 ghost use Rattle.class_world.specs.Sound.{IsNode, IsClass, IsOf, Holding, HasParams, GetsDict, Holds, AllHold, Grows, home_of, class_in, params_in, of_option, of_node, of_payload, of_property, is_lasting, with_payload};
 ghost use Rattle.class_world.specs.Defined.{with_parts};
-ghost use Rattle.plain_machine.specs.Plain.{AProperty};
 ghost use Rattle.class_world.specs.Added.{IsEmptyDict, with_object, number_of_object};
-ghost use Rattle.plain_machine.specs.Objects.{with_datum};
 
 use crate::definer::put_parts;
 use crate::places::empty_places;

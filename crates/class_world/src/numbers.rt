@@ -1,7 +1,7 @@
 //! Whether a number is one of an object, a class, a name or an expression.
 
-ghost use Rattle.std.specs.Prelude.{◌≡◌, ◌<◌, length, ltb, IsTrue};
-ghost use Rattle.class_model.specs.Class.{is_class};
+ghost use Rattle.class_world.specs.Below.{length, ltb, IsTrue, is_class};
+ghost use Rattle.std.specs.Prelude.{◌≡◌, ◌<◌};
 ghost use Rattle.class_world.specs.Reading.{Reading, plain};
 ghost use Rattle.class_world.specs.Sound.{IsNode, IsClass, IsName, IsExpression, Holds};
 

@@ -1,17 +1,9 @@
 //! What rows read of objects and classes.
 #![tactic(auto, unfolding(crate::specs::Reading::plain))]
 
-ghost use Rattle.std.specs.Prelude.{◌≡◌, Some, IfSome, option_map, nat_lt};
-ghost use Rattle.plain_machine.specs.World.{ref, datum_at};
-ghost use Rattle.plain_machine.specs.Objects.{class_object, type_object, class_number, special_at, is_instance, is_for_objects, is_fast, nearest_built_in};
-ghost use Rattle.class_model.specs.Layout.{built_ins};
-ghost use Rattle.class_model.specs.Slot.{first_with};
-ghost use Rattle.class_table.specs.Keys.{numbers};
+ghost use Rattle.class_world.specs.Below.{Some, IfSome, option_map, nat_lt, ref, datum_at, class_object, type_object, class_number, special_at, is_instance, is_for_objects, is_fast, nearest_built_in, built_ins, first_with, numbers, place_of, BuiltIn, TypeType, holds_as};
+ghost use Rattle.std.specs.Prelude.{◌≡◌};
 ghost use Rattle.class_world.specs.Reading.{Reading, Reads, plain};
-ghost use Rattle.py_node.specs.BuiltIns.{place_of};
-ghost use Rattle.py_node.specs.declared.built_in.BuiltIn.{BuiltIn};
-ghost use Rattle.py_node.specs.declared.built_in.BuiltIn.TheVariants.{TypeType};
-ghost use Rattle.plain_machine.specs.Sound.{holds_as};
 ghost use Rattle.class_world.specs.Sound.{IsNode, IsClass, IsOf, Holding, Holds};
 
 use crate::world::World;

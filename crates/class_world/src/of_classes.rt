@@ -1,14 +1,9 @@
 //! What is read of classes.
 
-ghost use Rattle.std.specs.Prelude.{◌≡◌, ◌<◌, ℕ, Some, IfSome, IfOk, option_map};
-ghost use Rattle.class_model.specs.BuiltIn.{natives_of};
-ghost use Rattle.class_model.specs.Class.{class_at as class_numbered, found, found_past, own_of, is_sub, has_flag};
-ghost use Rattle.class_model.specs.Collect.{all_attributes};
-ghost use Rattle.class_model.specs.Layout.{place_count};
-ghost use Rattle.class_model.specs.Name.{short_name};
-ghost use Rattle.class_model.specs.Slot.{entry, slot as slot_read, candidates_of, goes_first, is_heap_at};
-ghost use Rattle.class_table.specs.Turn.{list_of};
-ghost use Rattle.plain_machine.specs.World.{ref, class_at, text_keys, slot_at, candidates_at, goes_first_at, is_text};
+ghost use Rattle.class_world.specs.Below.{ℕ, Some, IfSome, IfOk, option_map, natives_of, class_at as class_numbered, found, found_past, own_of, is_sub, has_flag, all_attributes, place_count, short_name, slot as slot_read, candidates_of, goes_first, is_heap_at, list_of, ref, text_keys, slot_at, candidates_at, goes_first_at, is_text};
+ghost use Rattle.std.specs.Prelude.{◌≡◌, ◌<◌};
+ghost use Rattle.class_model.specs.Slot.{entry};
+ghost use Rattle.plain_machine.specs.World.{class_at};
 ghost use Rattle.class_world.specs.Reading.{Reading, Reads, bindings, plain};
 ghost use Rattle.class_world.specs.Sound.{IsNode, IsClass, IsOffset, Holds, AllHold, of_binding, of_each};
 

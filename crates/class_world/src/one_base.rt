@@ -1,19 +1,9 @@
 //! Classes with one base and no members: simple ones as scripts make them, and static ones, which scripts can't change. And
 //! whether a class gives its objects a dict.
 
-ghost use Rattle.std.specs.Prelude.{◌≡◌, ◌≤◌, ◌||◌, true, false, ◌∷◌, [], ◌++◌, length, IfOk, OnOk, OnErr, IsTrue, Some, None};
-ghost use Rattle.py_node.specs.declared.built_in.BuiltIn.{BuiltIn as Home};
-ghost use Rattle.py_node.specs.declared.built_in.BuiltIn.TheVariants.{TypeType};
-ghost use Rattle.class_model.specs.Change.{with_class};
-ghost use Rattle.class_model.specs.Class.{class_at, is_class};
-ghost use Rattle.class_model.specs.Numbers.{limit};
-ghost use Rattle.class_table.specs.Refused.{refusal, refused_attr, NamesNoClass};
-ghost use Rattle.class_model.specs.Dict.{gives_dict, has_dict as class_has_dict, heap_class};
-ghost use Rattle.class_table.specs.OneBase.{refused_single, single_class, says_so, static_flags};
-ghost use Rattle.class_log.specs.Logged.{IsLogged, IsGiven, made_single};
-ghost use Rattle.py_node.specs.BuiltIns.{heap_flags};
-ghost use Rattle.plain_machine.specs.Known.{the_type, the_dict};
-ghost use Rattle.plain_machine.specs.World.{ref, text_keys, has_dict, with_new_class, with_own_attr};
+ghost use Rattle.class_world.specs.Below.{true, false, [], length, IfOk, OnOk, OnErr, IsTrue, Some, None, BuiltIn as Home, TypeType, with_class, class_at, is_class, limit, refusal, refused_attr, NamesNoClass, gives_dict, has_dict as class_has_dict, heap_class, refused_single, single_class, says_so, static_flags, IsLogged, IsGiven, made_single, heap_flags, the_type, the_dict, ref, text_keys, with_new_class, with_own_attr};
+ghost use Rattle.std.specs.Prelude.{◌≡◌, ◌≤◌, ◌||◌, ◌∷◌, ◌++◌};
+ghost use Rattle.plain_machine.specs.World.{has_dict};
 ghost use Rattle.class_world.specs.NewHeap.{HasClassNode};
 ghost use Rattle.class_world.specs.Reading.{Reading, Reads, bindings, plain};
 ghost use Rattle.class_world.specs.Sound.{IsNode, IsClass, IsOf, Holds, AllHold, Grows, flags_at, is_marked_heap, of_binding, of_each};
@@ -21,7 +11,7 @@ ghost use Rattle.class_world.specs.Sound.{IsNode, IsClass, IsOf, Holds, AllHold,
 use crate::heap::push_class_node;
 use crate::places::empty_places;
 use crate::world::World;
-use class_log::ClassLog;
+use class_table::class_log::ClassLog;
 use class_table::one_base::flags_of_static;
 use class_table::{ClassFault, ClassTable};
 use py_node::{BuiltIn, Cause, Node, PyAttributes, PyObjectRef, PyTypeFlags, PyTypeRef};

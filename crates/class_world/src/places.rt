@@ -1,7 +1,7 @@
 //! The places of a new object, in which nothing stands yet.
 
-ghost use Rattle.std.specs.Prelude.{◌≡◌, true, IfOk};
-ghost use Rattle.class_model.specs.Class.{is_class};
+ghost use Rattle.class_world.specs.Below.{true, IfOk, is_class};
+ghost use Rattle.std.specs.Prelude.{◌≡◌};
 ghost use Rattle.class_world.specs.Added.{AreEmpty};
 
 use class_table::ClassTable;

@@ -1,11 +1,7 @@
 //! Another class and another dict for an object that is there.
 
-ghost use Rattle.std.specs.Prelude.{◌≡◌, true, is_some, option_and_then, OnOk, OnErr};
-ghost use Rattle.py_node.specs.declared.built_in.BuiltIn.TheVariants.{Dict};
-ghost use Rattle.class_table.specs.Rebase.{refused_class};
-ghost use Rattle.class_table.specs.Refused.{cause_of};
-ghost use Rattle.plain_machine.specs.Change.{SetClass, SetDict, apply};
-ghost use Rattle.plain_machine.specs.Dicts.{dict_of};
+ghost use Rattle.class_world.specs.Below.{true, is_some, option_and_then, OnOk, OnErr, Dict, refused_class, cause_of, SetClass, SetDict, apply, dict_of};
+ghost use Rattle.std.specs.Prelude.{◌≡◌};
 ghost use Rattle.plain_machine.specs.World.{class_at};
 ghost use Rattle.class_world.specs.Reading.{Reading, Reads, plain};
 ghost use Rattle.class_world.specs.Sound.{IsNode, IsClass, Holding, Holds, Grows, with_class_ref, with_dict_ref};

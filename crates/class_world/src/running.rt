@@ -1,8 +1,7 @@
 //! The body that runs: its function, and its variables.
 
-ghost use Rattle.std.specs.Prelude.{◌≡◌, IfSome};
-ghost use Rattle.plain_machine.specs.World.{in_last};
-ghost use Rattle.plain_machine.specs.Running.{running};
+ghost use Rattle.class_world.specs.Below.{IfSome, in_last, running};
+ghost use Rattle.std.specs.Prelude.{◌≡◌};
 ghost use Rattle.class_world.specs.Bound.{last_function};
 ghost use Rattle.class_world.specs.Reading.{Reading, plain};
 ghost use Rattle.class_world.specs.Sound.{IsNode, IsName, Holds};

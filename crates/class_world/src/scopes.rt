@@ -1,8 +1,7 @@
 //! Running bodies and variables.
 
-ghost use Rattle.std.specs.Prelude.{◌≡◌, ◌-◌, [], suc, map, length, take, OnOk, OnErr, IfSome};
-ghost use Rattle.py_node.specs.Replies.{started_of};
-ghost use Rattle.plain_machine.specs.World.{at_depth, without_calls, variable, with_binding, with_scope, without_scope};
+ghost use Rattle.class_world.specs.Below.{[], suc, map, length, take, OnOk, OnErr, IfSome, started_of, at_depth, without_calls, variable, with_binding, with_scope, without_scope};
+ghost use Rattle.std.specs.Prelude.{◌≡◌, ◌-◌};
 ghost use Rattle.class_world.specs.Reading.{Reading, Reads, bindings, plain};
 ghost use Rattle.class_world.specs.Sound.{IsNode, IsName, HasValues, Holds, AllHold, Lasts, Grows, of_binding, of_each};
 

@@ -1,11 +1,7 @@
 //! What is set and taken out of classes and objects that are there.
 
-ghost use Rattle.std.specs.Prelude.{◌≡◌, ◌++◌, ◌∷◌, [], true, false, is_some, Ok, IfOk, OnOk, OnErr};
-ghost use Rattle.class_model.specs.Class.{class_at as class_numbered, own_of};
-ghost use Rattle.class_table.specs.Refused.{refusal, refused_attr, NamesNoClass};
-ghost use Rattle.class_log.specs.Change.{DelOwn};
-ghost use Rattle.plain_machine.specs.Change.{without_own_attr};
-ghost use Rattle.plain_machine.specs.World.{is_text};
+ghost use Rattle.class_world.specs.Below.{[], true, false, is_some, Ok, IfOk, OnOk, OnErr, class_at as class_numbered, own_of, refusal, refused_attr, NamesNoClass, DelOwn, without_own_attr, is_text};
+ghost use Rattle.std.specs.Prelude.{◌≡◌, ◌++◌, ◌∷◌};
 ghost use Rattle.class_world.specs.Reading.{Reading, Reads, plain};
 ghost use Rattle.class_world.specs.Sound.{IsClass, IsName, Holds, Grows};
 

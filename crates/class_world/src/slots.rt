@@ -1,9 +1,7 @@
 //! What `__slots__` say of a class to be: its members, and whether its objects have a dict.
 
-ghost use Rattle.std.specs.Prelude.{◌≡◌, ◌||◌, map, IfOk};
-ghost use Rattle.class_model.specs.Dict.{any_has_dict, slot_members, slots_bring};
-ghost use Rattle.class_table.specs.Keys.{numbers, slot_names};
-ghost use Rattle.plain_machine.specs.World.{text_keys};
+ghost use Rattle.class_world.specs.Below.{map, IfOk, any_has_dict, slot_members, slots_bring, numbers, slot_names, text_keys};
+ghost use Rattle.std.specs.Prelude.{◌≡◌, ◌||◌};
 ghost use Rattle.class_world.specs.NewHeap.{slot_texts, of_slots};
 ghost use Rattle.class_world.specs.Reading.{Reading, Reads, plain, spelled};
 ghost use Rattle.class_world.specs.Sound.{AreNames, Holds, AllHold};

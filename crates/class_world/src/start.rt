@@ -1,7 +1,7 @@
 //! The nodes of a new machine.
 
-ghost use Rattle.std.specs.Prelude.{◌≡◌, map, IfOk};
-ghost use Rattle.py_node.specs.BuiltIns.{all_built_ins, place_of};
+ghost use Rattle.class_world.specs.Below.{map, IfOk, all_built_ins, place_of};
+ghost use Rattle.std.specs.Prelude.{◌≡◌};
 ghost use Rattle.class_world.specs.StartNodes.{plain_node as stored, class_node as stored_class, start_nodes as the_start_nodes};
 
 use py_node::built_in::built_ins;

@@ -1,13 +1,8 @@
 //! What a native takes: so many arguments and no keyword.
 #![tactic(auto, using(crate::proofs::Items::item_holds))]
 
-ghost use Rattle.std.specs.Prelude.{◌≡◌, Err, IfErr, IfNone, IfOk, IfSome, string_bytes};
-ghost use Rattle.py_node.specs.Faults.{raised};
-ghost use Rattle.plain_machine.specs.Plain.{PlainWorld, Said, Ends};
-ghost use Rattle.plain_machine.specs.Takes.{without_keywords, with_one, with_two, with_three, text_in, with_text};
-ghost use Rattle.plain_machine.specs.World.{datum_at};
-ghost use Rattle.py_node.specs.Tree.{Text};
-ghost use Rattle.py_node.specs.declared.refs.PyObjectRef.{PyObjectRef as Object};
+ghost use Rattle.class_world.specs.Below.{Err, IfErr, IfNone, IfOk, IfSome, string_bytes, raised, PlainWorld, Said, Ends, without_keywords, with_one, with_two, with_three, text_in, with_text, datum_at, Text, PyObjectRef as Object};
+ghost use Rattle.std.specs.Prelude.{◌≡◌};
 ghost use Rattle.class_world.specs.Held.{Held};
 ghost use Rattle.class_world.specs.Reading.{Reading, Reads, bindings, plain};
 ghost use Rattle.class_world.specs.Sound.{AreNodes, IsName, IsNode, Holds, Grows};

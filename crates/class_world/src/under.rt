@@ -1,11 +1,8 @@
 //! What dicts have under keys, which are objects.
 #![tactic(auto, unfolding(crate::specs::Reading::plain))]
 
-ghost use Rattle.std.specs.Prelude.{◌≡◌, ◌<◌, [], ◌∷◌, length, position, true, false, is_some, IfSome, OnOk};
-ghost use Rattle.py_node.specs.declared.built_in.BuiltIn.TheVariants.{Dict};
-ghost use Rattle.py_node.specs.Attributes.{value_of};
-ghost use Rattle.plain_machine.specs.Dicts.{entries_in, is_like, is_one_key, with_entries, with_entry, without_value_for};
-ghost use Rattle.plain_machine.specs.World.{datum_at};
+ghost use Rattle.class_world.specs.Below.{[], length, position, true, false, is_some, IfSome, OnOk, Dict, value_of, entries_in, is_like, is_one_key, with_entries, with_entry, without_value_for, datum_at};
+ghost use Rattle.std.specs.Prelude.{◌≡◌, ◌<◌, ◌∷◌};
 ghost use Rattle.class_world.specs.Keyed.{held_dict, of_keyed};
 ghost use Rattle.class_world.specs.Reading.{Reading, Reads, plain};
 ghost use Rattle.class_world.specs.Sound.{IsNode, CanBeKeys, Holding, Holds, AllHold, Grows, held_key};

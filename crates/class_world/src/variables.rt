@@ -1,7 +1,7 @@
 //! Variables: of the running body, or else of the machine.
 
-ghost use Rattle.std.specs.Prelude.{◌≡◌, ◌<◌, length, OnOk, OnErr};
-ghost use Rattle.py_node.specs.Attributes.{value_of, is_same_name};
+ghost use Rattle.class_world.specs.Below.{length, OnOk, OnErr, value_of, is_same_name};
+ghost use Rattle.std.specs.Prelude.{◌≡◌, ◌<◌};
 ghost use Rattle.class_world.specs.Bound.{last_value, value_in, bound_vars, bound_scopes};
 
 use crate::scope::Scope;

@@ -1,28 +1,16 @@
 //! The world, and how it begins.
 
-ghost use Rattle.std.specs.Prelude.{◌≡◌, ◌<◌, ℕ, List, false, [], map, Some, IfOk, slice_get};
-ghost use Rattle.py_node.specs.declared.built_in.BuiltIn.{BuiltIn};
-ghost use Rattle.py_node.specs.BuiltIns.{place_of, flags_of};
-ghost use Rattle.py_node.specs.Replies.{started_of};
-ghost use Rattle.py_node.specs.Known.{known_texts};
-ghost use Rattle.class_table.specs.Start.{start_classes};
-ghost use Rattle.class_log.specs.Change.{change_of};
-ghost use Rattle.class_log.specs.Logged.{AreSameButForNames};
-ghost use Rattle.class_log.specs.Refused.{AreMade};
-ghost use Rattle.class_log.specs.Shown.{shown, first_classes};
-ghost use Rattle.plain_machine.specs.Known.{the_none_type};
-ghost use Rattle.plain_machine.specs.Row.{none};
+ghost use Rattle.class_world.specs.Below.{ℕ, List, false, [], map, Some, IfOk, slice_get, BuiltIn, place_of, flags_of, started_of, known_texts, start_classes, change_of, AreSameButForNames, AreMade, shown, first_classes, the_none_type, none, start, IsSound};
+ghost use Rattle.std.specs.Prelude.{◌≡◌, ◌<◌};
 ghost use Rattle.plain_machine.specs.World.{class_at};
-ghost use Rattle.plain_machine.specs.Start.{start};
-ghost use Rattle.plain_machine.specs.Sound.{IsSound};
 ghost use Rattle.class_world.specs.Held.{Held};
 ghost use Rattle.class_world.specs.Reading.{Reading, Reads, plain, IsReadable};
 ghost use Rattle.class_world.specs.Sound.{flags_at, is_marked_heap};
 
 use crate::attributes_of_built_ins::opening_nodes;
 use crate::scope::Scope;
-use class_log::{ClassChange, ClassLog};
 use class_table::ClassTable;
+use class_table::class_log::{ClassChange, ClassLog};
 use class_table::start::known_names;
 use py_node::{BodyCall, Form, Names, Node, OutOfMemory, PyAttributes};
 use std::alloc::Global;

@@ -1,2 +1,4 @@
+pub mod Lemmas
+pub mod Below
 pub mod OneByOne
 pub mod Sorts

@@ -1,9 +1,6 @@
 -- The replies to commands are those to the first ones, and then those to the rest in the world after them.
-use Rattle.std.proofs.Common.{◌≡◌, ℕ, ◌+◌, List, [], ◌∷◌, ◌++◌, length, refl, ap, ◌∙◌, arith}
-use Rattle.py_node.specs.Tree.{Tree}
-use Rattle.plain_machine.specs.Plain.{PlainWorld, DoEval, PlainTask, ToEval, Saying}
-use Rattle.plain_machine.specs.Answer.{Outcome, Out, Run, answer, answering, replied, plain_run}
-use Rattle.plain_machine.specs.World.{without_calls}
+use Rattle.generator.proofs.Below.{ℕ, List, [], length, refl, ap, ◌∙◌, arith, Tree, PlainWorld, DoEval, PlainTask, ToEval, Saying, Outcome, Out, Run, answer, answering, replied, plain_run, without_calls}
+use Rattle.std.proofs.Common.{◌≡◌, ◌+◌, ◌∷◌, ◌++◌}
 
 -- a run, and then what comes after it
 abbrev pub then_run : Run → (PlainWorld → Run) → Run

@@ -1,11 +1,6 @@
 -- Each reply is of one sort.
-use Rattle.std.proofs.Common.{◌≡◌, ◌+◌, List, [], ◌∷◌, ◌++◌, length, refl, sym, ap, ◌∙◌, arith}
-use Rattle.std.specs.Prelude.{cond}
-use Rattle.py_node.specs.Replies.{PlainReply, PlainReplyAnswer, GivesValue, GivesRaise, GivesBudget}
-use Rattle.std.proofs.lemmas.List.{length-append}
-use Rattle.std.proofs.lemmas.List.Sums.{sum_by-cons, sum_by_push}
-use Rattle.generator.specs.declared.tally.Tally.{Tally}
-use Rattle.generator.specs.Summary.{values, raised, budget, is_value, is_raise, is_budget, Added, Counts}
+use Rattle.generator.proofs.Below.{List, [], length, refl, sym, ap, ◌∙◌, arith, cond, PlainReply, PlainReplyAnswer, GivesValue, GivesRaise, GivesBudget, length-append, sum_by-cons, sum_by_push, Tally, values, raised, budget, is_value, is_raise, is_budget, Added, Counts}
+use Rattle.std.proofs.Common.{◌≡◌, ◌+◌, ◌∷◌, ◌++◌}
 
 one-sort : (a : PlainReplyAnswer) → cond (is_value a) 1 0 + cond (is_raise a) 1 0 + cond (is_budget a) 1 0 ≡ 1
 one-sort (GivesValue object text) = refl

@@ -1,10 +1,6 @@
 -- The commands that are generated from a seed: eight classes are made, each but the first below one of those before it; then their objects are added, and the classes are changed.
-use Rattle.std.specs.Prelude.{ℕ, ◌+◌, ◌-◌, ◌*◌, ◌==◌, pos, false, List, [], ◌∷◌, ◌++◌, map, codes, if◌then◌else◌}
-use Rattle.std.specs.List.{range_with_len}
-use Rattle.std.specs.Fmt.{decimal}
-use Rattle.py_node.specs.declared.expr.Word.TheVariants.{Binary}
-use Rattle.py_node.specs.declared.task.PyNumberBinaryOp.TheVariants.{Add}
-use Rattle.py_node.specs.Tree.{Text, Tree, Trees, trees_of, no_trees, no_entries, TConst, TName, TBind, TTuple, TFunc, TSetAttr, TCall, TOp, TClass, LInt}
+use Rattle.generator.specs.Below.{ℕ, pos, false, List, [], map, codes, range_with_len, decimal, Binary, Add, Text, Tree, Trees, trees_of, no_trees, no_entries, TConst, TName, TBind, TTuple, TFunc, TSetAttr, TCall, TOp, TClass, LInt}
+use Rattle.std.specs.Prelude.{◌+◌, ◌-◌, ◌*◌, ◌==◌, ◌∷◌, ◌++◌, if◌then◌else◌}
 use Rattle.generator.specs.Draws.{after, draw}
 
 -- the name of class number i

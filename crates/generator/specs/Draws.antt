@@ -1,5 +1,6 @@
 -- The numbers that are drawn: from each state the next one follows, and a draw is a part of it.
-use Rattle.std.specs.Prelude.{ℕ, zero, suc, ◌+◌, ◌*◌, ◌/◌, ◌%◌, ◌^◌}
+use Rattle.generator.specs.Below.{ℕ, zero, suc}
+use Rattle.std.specs.Prelude.{◌+◌, ◌*◌, ◌/◌, ◌%◌, ◌^◌}
 
 -- the state that follows a state
 unfoldable pub next : ℕ → ℕ

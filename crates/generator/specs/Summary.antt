@@ -1,10 +1,6 @@
 -- How many replies are of each sort, how many bodies were started, and what is written of these.
-use Rattle.std.specs.Prelude.{◌≡◌, ℕ, ◌+◌, Bool, true, false, cond, List, ◌++◌, length, codes}
-use Rattle.std.specs.List.{count_by, sum_by}
-use Rattle.std.specs.Fmt.{decimal}
-use Rattle.py_node.specs.Tree.{Text}
-use Rattle.py_node.specs.Replies.{PlainReply, PlainReplyAnswer, GivesValue, GivesRaise, GivesBudget}
-use Rattle.plain_machine.specs.Lines.{end_of_line}
+use Rattle.generator.specs.Below.{ℕ, Bool, true, false, cond, List, length, codes, count_by, sum_by, decimal, Text, PlainReply, PlainReplyAnswer, GivesValue, GivesRaise, GivesBudget, end_of_line}
+use Rattle.std.specs.Prelude.{◌≡◌, ◌+◌, ◌++◌}
 use Rattle.generator.specs.declared.tally.Tally.{Tally}
 
 abbrev pub is_value : PlainReplyAnswer → Bool

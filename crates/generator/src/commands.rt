@@ -1,7 +1,7 @@
 //! The commands that are generated: eight that make classes, and then changes of them.
 
-ghost use Rattle.std.specs.Prelude.{◌≡◌, ◌<◌, ◌^◌, if◌then◌else◌, ◌==◌, IfOk, OnOk, map, string_bytes};
-ghost use Rattle.py_node.specs.Tree.{tree_of, trees_of, TName};
+ghost use Rattle.generator.specs.Below.{IfOk, OnOk, map, string_bytes, tree_of, trees_of, TName};
+ghost use Rattle.std.specs.Prelude.{◌≡◌, ◌<◌, ◌^◌, if◌then◌else◌, ◌==◌};
 ghost use Rattle.generator.specs.Draws.{after};
 ghost use Rattle.generator.specs.Commands.{name, base, class_command, integer, object_of, sum, set, adder, change, change_command};
 

@@ -1,8 +1,7 @@
 //! What holds of the tally of a run, whatever its commands do.
 
-ghost use Rattle.std.specs.Prelude.{◌≡◌, ℕ, ◌+◌};
-ghost use Rattle.plain_machine.specs.Plain.{PlainTask, PlainWorld, Saying};
-ghost use Rattle.plain_machine.specs.Answer.{plain_run};
+ghost use Rattle.generator.specs.Below.{ℕ, PlainTask, PlainWorld, Saying, plain_run};
+ghost use Rattle.std.specs.Prelude.{◌≡◌, ◌+◌};
 ghost use Rattle.generator.specs.Commands.{generated};
 ghost use Rattle.generator.specs.Summary.{values, raised, budget};
 

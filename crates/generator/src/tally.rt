@@ -1,7 +1,7 @@
 //! A tally of replies: how many there are of each sort, and how many bodies were started.
 
-ghost use Rattle.std.specs.Prelude.{◌≡◌, ◌+◌, ◌*◌, ◌^◌, ◌<◌, ◌≤◌, [], ◌++◌, List, IfOk, length, map};
-ghost use Rattle.py_node.specs.Replies.{PlainReply, reply_of};
+ghost use Rattle.generator.specs.Below.{[], List, IfOk, length, map, PlainReply, reply_of};
+ghost use Rattle.std.specs.Prelude.{◌≡◌, ◌+◌, ◌*◌, ◌^◌, ◌<◌, ◌≤◌, ◌++◌};
 
 use py_node::{OutOfMemory, Reply, ReplyAnswer};
 use std::alloc::Global;

@@ -1,16 +1,5 @@
 -- Seats that are free again.
-use Rattle.std.proofs.Common.{ℕ, List, Option, Result, Ok, Err, ap, ◌∙◌}
-use Rattle.py_node.specs.declared.refs.PyStrInterned.{PyStrInterned}
-use Rattle.py_node.specs.Tree.{Text, Tree}
-use Rattle.seat_lock.specs.declared.history.Turn.{Turn}
-use Rattle.seat_lock.specs.Known.{TableId, Known, IsFree}
-use Rattle.class_view.specs.declared.writer.Told.{Told}
-use Rattle.shared_vm.specs.declared.entry.Entry.{Entry}
-use Rattle.shared_vm.specs.declared.entry.Receipt.{Receipt}
-use Rattle.shared_vm.specs.declared.entry.ExecFault.{ExecFault}
-use Rattle.shared_vm.specs.declared.entry.ExecFault.TheVariants.{OutOfMemory, Failed}
-use Rattle.shared_vm.specs.Turns.{Makes, Leaves, Executed, Named}
-use Rattle.viewed_vm.specs.Published.{Published}
+use Rattle.host_tests.proofs.Below.{ℕ, List, Option, Result, Ok, Err, ap, ◌∙◌, PyStrInterned, Text, Tree, Turn, TableId, Known, IsFree, Told, Entry, Receipt, ExecFault, OutOfMemory, Failed, Makes, Leaves, Executed, Named, Published}
 
 -- a seat that made a turn
 made_free : (id : TableId) (old new : Known Entry) (before : List (Turn Entry)) (t : Turn Entry) → IsFree id old → Makes old new before t → IsFree id new

@@ -1,12 +1,12 @@
 //! What hosts are refused, and merges.
 
-ghost use Rattle.std.specs.Prelude.{◌≤◌, length};
-ghost use Rattle.class_world.specs.Sound.{AllHold, of_class_ref, of_each};
+ghost use Rattle.host_tests.specs.Below.{length, AllHold, of_class_ref, of_each};
+ghost use Rattle.std.specs.Prelude.{◌≤◌};
 
 use class_table::ClassFault;
+use class_table::mro_merge::MroFault;
+use class_table::mro_merge::laws::linearise_mro;
 use class_world::{Fixed, World};
-use mro_merge::MroFault;
-use mro_merge::laws::linearise_mro;
 use py_node::{BuiltIn, Cause, Known, OutOfMemory, PyAttributes, PyTypeFlags, PyTypeRef};
 use std::test::Fail;
 

@@ -3,7 +3,7 @@
 ghost use Rattle.std.specs.Prelude.{◌<◌};
 
 use script_text::read_sessions;
-use shared_run::share_run;
+use shared_vm::shared_run::share_run;
 use shared_vm::{Closed, Gate};
 use std::sync::{Mutex, Wait};
 use std::test::Fail;

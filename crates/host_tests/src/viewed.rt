@@ -2,8 +2,8 @@
 
 use crate::views::look_and_close;
 use script_text::read_script;
+use shared_vm::viewed_vm::ViewedVm;
 use std::test::Fail;
-use viewed_vm::ViewedVm;
 
 // A class is made, and an attribute of it set.
 const SCRIPT: &[u8] = br#"[["bind","A",["class","A",[],[]]],["setattr",["name","A"],"x",null]]"#;

@@ -1,15 +1,14 @@
 //! A machine that callers share, whose classes a reader looks up.
 
-ghost use Rattle.std.specs.Prelude.{◌≡◌, ◌<◌, vec_len};
-ghost use Rattle.std.specs.List.{All};
-ghost use Rattle.seat_lock.specs.Known.{IsFree};
+ghost use Rattle.host_tests.specs.Below.{vec_len, All, IsFree};
+ghost use Rattle.std.specs.Prelude.{◌≡◌, ◌<◌};
 
 use class_view::{ClassReader, RuledPane, Told};
 use class_world::Fixed;
 use py_node::{Command, PyStrInterned, PyTypeRef};
 use seat_lock::MOST_TURNS;
+use shared_vm::viewed_vm::{ViewedSeat, ViewedVm};
 use std::sync::Wait;
-use viewed_vm::{ViewedSeat, ViewedVm};
 
 // More numbers than the machine has classes.
 const NUMBERS: u64 = 2_000;

@@ -1,4 +1,4 @@
-//! Writes a table of calls with their values, of the machine (`machine_lines`) and of what the program does.
+//! Writes a table of calls with their values, of the machine (`table_lines::machine_lines`) and of what the program does.
 #![tactic(auto)]
 
 mod programs;
@@ -9,7 +9,7 @@ use table_lines::Table;
 
 fn main(rt: HostRuntime) -> io::Result<ExitCode> {
     let mut table = Table::new(rt.alloc());
-    machine_lines::put(&mut table, rt.alloc());
+    table_lines::machine_lines::put(&mut table, rt.alloc());
     programs::put(&mut table, &rt);
     let text = table.text();
     print!(rt; "{text}")?;

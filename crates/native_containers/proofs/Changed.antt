@@ -1,14 +1,7 @@
 -- What is said where a list or a dict changes, by what its new contents are.
-use Rattle.std.proofs.Common.{◌≡◌, true, false, cond, List, length, fold, Result, Ok, Err, sym, ap, ◌∙◌}
-use Rattle.std.specs.Prelude.{nat_le, IfErr}
-use Rattle.py_node.specs.declared.refs.PyObjectRef.{PyObjectRef}
-use Rattle.py_node.specs.declared.raised.Cause.TheVariants.{TooLong}
-use Rattle.plain_machine.specs.Dicts.{Entries, with_entry}
-use Rattle.plain_machine.specs.Plain.{PlainWorld, Said, Ends}
-use Rattle.plain_machine.specs.Row.{most_items, fault}
-use Rattle.native_containers.specs.declared.take.Kind.TheVariants as kind
-use Rattle.native_containers.specs.Say.{unless_long, dict_changed, dict_updated}
-use Rattle.native_containers.specs.Take.{entries_at, with_kind}
+use Rattle.native_containers.proofs.Below.{true, false, cond, List, length, fold, Result, Ok, Err, sym, ap, ◌∙◌, nat_le, IfErr, PyObjectRef, TooLong, Entries, with_entry, PlainWorld, Said, Ends, most_items, fault, unless_long, dict_changed, dict_updated, entries_at, with_kind}
+use Rattle.std.proofs.Common.{◌≡◌}
+use Rattle.row_kit.specs.declared.take_containers.Kind.TheVariants as kind
 
 -- a container is not too long, or it is
 module _ {A : Type 0} (w : PlainWorld) (xs : List A) (go : Said) where

@@ -1,32 +1,7 @@
 -- How natives end, by what was called before.
-use Rattle.std.proofs.Common.{◌≡◌, Err, ◌∙◌}
-use Rattle.std.specs.Prelude.{Result, IfOk}
-use Rattle.py_node.specs.declared.memory.OutOfMemory.{OutOfMemory}
-use Rattle.py_node.specs.declared.raised.Raised.{Raised as Fault}
-use Rattle.py_node.specs.declared.task.Answer.{Answer}
-use Rattle.plain_machine.specs.Plain.{PlainWorld, Said, Ends}
-use Rattle.class_world.specs.declared.world.World.{World}
-use Rattle.class_world.specs.Reading.{Reading, Reads, plain}
-use Rattle.class_world.specs.Rows.{EndsAs}
-use Rattle.class_world.proofs.Stored.{ok-map}
-
-abbrev Saying : Type 0
-Saying = Reading → PlainWorld → Said
-
--- what is said is the same as something else
-pub same-ends : (said other : Saying) (w new : World) (r : Result Answer Fault) → ((t : Reading) → said t (plain t w) ≡ other t (plain t w)) → EndsAs other w new r → EndsAs said w new r
-same-ends said other w new r same h = λ t q. let k = h t q in (k.0, same t ∙ k.1)
-
-pub same-if : (said other : Saying) (w new : World) (res : Result (Result Answer Fault) OutOfMemory) → ((t : Reading) → said t (plain t w) ≡ other t (plain t w)) → IfOk res (λ r. EndsAs other w new r) → IfOk res (λ r. EndsAs said w new r)
-same-if said other w new res same h = ok-map (λ r. EndsAs other w new r) (λ r. EndsAs said w new r) res (λ r k. same-ends said other w new r same k) h
+use Rattle.native_containers.proofs.Below.{Err, Raised as Fault, Ends, World, Reading, Reads, plain, EndsAs, Saying}
+use Rattle.std.proofs.Common.{◌≡◌}
 
 -- a fault, in the world as it is
 pub fault-ends : (said : Saying) (w new : World) (x : Fault) → ((t : Reading) → said t (plain t w) ≡ Ends (plain t new) (Err x)) → ((t : Reading) → Reads t new → Reads t w) → EndsAs said w new (Err x)
 fault-ends said w new x says reads = λ t q. (reads t q, says t)
-
--- the world was changed before, and what is said goes on with something else there
-pub then-ends : (said other : Saying) (w mid new : World) (r : Result Answer Fault) → ((t : Reading) → said t (plain t w) ≡ other t (plain t mid)) → ((t : Reading) → Reads t mid → Reads t w) → EndsAs other mid new r → EndsAs said w new r
-then-ends said other w mid new r says reads h = λ t q. let k = h t q in (reads t k.0, says t ∙ k.1)
-
-pub then-if : (said other : Saying) (w mid new : World) (res : Result (Result Answer Fault) OutOfMemory) → ((t : Reading) → said t (plain t w) ≡ other t (plain t mid)) → ((t : Reading) → Reads t mid → Reads t w) → IfOk res (λ r. EndsAs other mid new r) → IfOk res (λ r. EndsAs said w new r)
-then-if said other w mid new res says reads h = ok-map (λ r. EndsAs other mid new r) (λ r. EndsAs said w new r) res (λ r k. then-ends said other w mid new r says reads k) h

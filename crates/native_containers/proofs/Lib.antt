@@ -1,6 +1,12 @@
+pub mod Lemmas
+pub mod Below
 pub mod Payloads
 pub mod Loops
 pub mod Ends
 pub mod Under
 pub mod Changed
 pub mod Filled
+pub mod NativeTexts
+pub mod NativeCompare
+pub mod NativeItems
+pub mod NativeParts

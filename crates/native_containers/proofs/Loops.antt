@@ -1,36 +1,8 @@
 -- Loops over pairs and over keywords, a step at a time.
-use Rattle.std.proofs.Common.{◌≡◌, ℕ, suc, ◌+◌, ◌<◌, ◌≤◌, Bool, true, false, cond, List, [], ◌∷◌, ◌++◌, length, get_or, drop, sym, ap, ◌∙◌, arith}
-use Rattle.std.proofs.lemmas.List.{drop_all}
-use Rattle.std.proofs.Math.Seq.{drop-cons}
-use Rattle.py_node.specs.declared.refs.PyObjectRef.{PyObjectRef}
-use Rattle.py_node.specs.declared.refs.PyStrInterned.{PyStrInterned}
-use Rattle.py_node.specs.declared.raised.Cause.TheVariants.{TooLong}
-use Rattle.plain_machine.specs.Dicts.{Entries, has_place, with_value_in}
-use Rattle.plain_machine.specs.Known.{the_tuple}
-use Rattle.plain_machine.specs.Plain.{ATuple, PlainWorld, Said, Ends}
-use Rattle.plain_machine.specs.Row.{fault}
-use Rattle.plain_machine.specs.World.{with_node, next_node}
-use Rattle.class_world.specs.Held.{Held}
-use Rattle.class_world.specs.Reading.{Reading, bindings}
-use Rattle.class_world.specs.Sound.{IsName, IsNode, Holds, AllHold, of_binding, of_each}
-use Rattle.class_world.proofs.Claims.{each-get}
-use Rattle.class_world.proofs.DictEntries.{get-below}
-use Rattle.native_containers.specs.Say.{ends_none, list_made, names_set, pairs_made}
-
-next : (i : ℕ) → suc i ≡ i + 1
-next i = omega arith
+use Rattle.native_containers.proofs.Below.{ℕ, suc, Bool, true, false, cond, List, length, get_or, drop, sym, ap, ◌∙◌, drop_all, drop-cons, PyObjectRef, PyStrInterned, TooLong, has_place, with_value_in, PlainWorld, Said, Ends, fault, Held, Reading, bindings, IsName, IsNode, Holds, AllHold, of_binding, of_each, each-get, get-below, ends_none, names_set, next}
+use Rattle.std.proofs.Common.{◌≡◌, ◌+◌, ◌<◌, ◌≤◌}
 
 -- a pair more
-
-pub pair-more : (w new : PlainWorld) (rs : List PyObjectRef) (r : PyObjectRef) (es : Entries) (i : ℕ) (e : PyObjectRef × PyObjectRef) → i < length es → new ≡ with_node w the_tuple (ATuple ((get_or es i e).0 ∷ (get_or es i e).1 ∷ [])) → r ≡ next_node w the_tuple → pairs_made w rs (drop i es) ≡ pairs_made new (rs ++ r ∷ []) (drop (i + 1) es)
-pair-more w new rs r es i e l made number =
-    ap (pairs_made w rs) (drop-cons es i e l)
-    ∙ ap (λ u. pairs_made u (rs ++ next_node w the_tuple ∷ []) (drop (suc i) es)) (sym made)
-    ∙ ap (λ p. pairs_made new (rs ++ p ∷ []) (drop (suc i) es)) (sym number)
-    ∙ ap (λ n. pairs_made new (rs ++ r ∷ []) (drop n es)) (next i)
-
-pub pairs-all : (w : PlainWorld) (rs : List PyObjectRef) (es : Entries) (i : ℕ) → length es ≤ i → pairs_made w rs (drop i es) ≡ list_made w rs
-pairs-all w rs es i l = ap (pairs_made w rs) (drop_all i es l)
 
 -- a keyword more
 

@@ -1,14 +1,6 @@
 -- A key that is taken out of a dict, and how long a dict is with one.
-use Rattle.std.proofs.Common.{◌≡◌, suc, Bool, true, false, ◌∷◌, [], length, Option, Some, None, cond, refl, ap, ◌∙◌, arith, length-append}
-use Rattle.std.specs.Prelude.{is_some}
-use Rattle.py_node.specs.declared.refs.PyObjectRef.{PyObjectRef}
-use Rattle.py_node.specs.declared.raised.Cause.TheVariants.{MissingKey}
-use Rattle.py_node.specs.Attributes.{value_of}
-use Rattle.plain_machine.specs.Dicts.{Entries, is_like, put_under, with_entries, with_entry, with_value_for, without_value_for}
-use Rattle.plain_machine.specs.Plain.{PlainWorld, Ends}
-use Rattle.plain_machine.specs.Row.{fault}
-use Rattle.native_containers.specs.Say.{ends_none, key_taken, value_under}
-use Rattle.native_containers.specs.Take.{entries_at}
+use Rattle.native_containers.proofs.Below.{suc, Bool, true, false, [], length, Option, Some, None, cond, refl, ap, ◌∙◌, arith, length-append, is_some, PyObjectRef, MissingKey, value_of, Entries, is_like, put_under, with_entries, with_entry, with_value_for, without_value_for, PlainWorld, Ends, fault, ends_none, key_taken, value_under, entries_at}
+use Rattle.std.proofs.Common.{◌≡◌, ◌∷◌}
 
 module _ (w : PlainWorld) (d k : PyObjectRef) where
   pub not-taken : is_some (value_under w d k) ≡ false → key_taken w d k (value_under w d k) ≡ Ends w (fault MissingKey)

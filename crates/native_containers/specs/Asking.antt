@@ -1,22 +1,6 @@
--- How natives are written that ask tasks: what they take is tested before the first, and not again.
-use Rattle.std.specs.Prelude.{ℕ, List, [], ◌∷◌, slice_index_or}
-use Rattle.py_node.specs.declared.refs.PyObjectRef.{PyObjectRef}
-use Rattle.plain_machine.specs.Plain.{PlainWorld, Bindings, Ended, Answered, ReadObjects, Said}
-use Rattle.plain_machine.specs.Row.{Row, none}
-use Rattle.native_containers.specs.declared.take.Kind.{Kind}
+-- What natives of containers take that ask tasks: it is tested before the first, and not again.
+use Rattle.native_containers.specs.Below.{List, [], PyObjectRef, PlainWorld, Bindings, Row, Kind, argument, tested_first}
 use Rattle.native_containers.specs.Take.{with_lone, with_own_and, with_own_and_two}
-
--- ends as this does, whatever was learnt
-abbrev pub as_said : Said → Row
-as_said said told = said
-
-abbrev pub argument : List PyObjectRef → ℕ → PyObjectRef
-argument args i = slice_index_or args i none
-
--- does this where nothing is learnt yet, and goes on so where something is
-abbrev pub tested_first : Said → Row → Row
-tested_first said go [] = said
-tested_first said go (f ∷ more) = go (f ∷ more)
 
 -- an object of a kind, alone, or with one argument, or with two
 abbrev pub taking_one : Kind → PlainWorld → List PyObjectRef → Bindings → (PyObjectRef → Row) → Row
@@ -29,8 +13,3 @@ taking_two k w args kw row =
 abbrev pub taking_three : Kind → PlainWorld → List PyObjectRef → Bindings → (PyObjectRef → PyObjectRef → PyObjectRef → Row) → Row
 taking_three k w args kw row =
     tested_first (with_own_and_two k w args kw (λ o a b. row o a b [])) (row (argument args 0) (argument args 1) (argument args 2))
-
--- does this, having read objects, and goes on with them and with the answer to what it asked
-abbrev pub with_read : Said → (List PyObjectRef → Ended → Row) → Row
-with_read said go (ReadObjects rs ∷ (Answered r ∷ more)) = go rs r more
-with_read said go _ = said

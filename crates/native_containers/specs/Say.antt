@@ -1,27 +1,12 @@
 -- What the natives of tuples, lists, dicts and iterators say that ask no task.
-use Rattle.std.specs.Prelude.{pos, Bool, cond, nat_le, is_some, length, map, fold, List, [], ◌∷◌, ◌++◌, Option, Some, None, Ok}
-use Rattle.py_node.specs.declared.refs.PyObjectRef.{PyObjectRef}
-use Rattle.py_node.specs.declared.raised.Cause.TheVariants.{ArgCount, ConcatType, MissingKey, TooLong}
-use Rattle.py_node.specs.declared.entry.TupleNative.{TupleNative}
+use Rattle.native_containers.specs.Below.{pos, cond, nat_le, is_some, length, fold, List, [], Option, Some, None, PyObjectRef, ArgCount, ConcatType, MissingKey, TooLong, TupleNative, ListNative, DictNative, IteratorNative, value_of, Entries, has_place, is_like, with_entry, with_entries, with_value_in, without_value_for, the_list, with_datum, AList, PlainWorld, Bindings, Ended, Said, Ends, value, none, truth, most_items, fault, elsewhere, datum_at, with_node, next_node, number_told, iterator_made, Kind, is_of, items_at, entries_at, tuple_made, list_made, keys_of, values_of, pairs_made}
+use Rattle.std.specs.Prelude.{◌∷◌, ◌++◌}
 use Rattle.py_node.specs.declared.entry.TupleNative.TheVariants as tuple
-use Rattle.py_node.specs.declared.entry.ListNative.{ListNative}
 use Rattle.py_node.specs.declared.entry.ListNative.TheVariants as list
-use Rattle.py_node.specs.declared.entry.DictNative.{DictNative}
 use Rattle.py_node.specs.declared.entry.DictNative.TheVariants as dict
-use Rattle.py_node.specs.declared.entry.IteratorNative.{IteratorNative}
 use Rattle.py_node.specs.declared.entry.IteratorNative.TheVariants as iterator
-use Rattle.py_node.specs.Attributes.{value_of}
-use Rattle.py_node.specs.Tree.{Text}
-use Rattle.plain_machine.specs.Dicts.{Entries, has_place, is_like, with_entry, with_entries, with_value_in, without_value_for}
-use Rattle.plain_machine.specs.Known.{the_tuple, the_list}
-use Rattle.plain_machine.specs.Objects.{with_datum}
-use Rattle.plain_machine.specs.Plain.{ATuple, AList, PlainWorld, Bindings, Ended, Said, Ends}
-use Rattle.plain_machine.specs.Row.{value, none, truth, most_items, fault, elsewhere}
-use Rattle.plain_machine.specs.World.{datum_at, with_node, next_node}
-use Rattle.native_base.specs.Say.{object_made, number_told, iterator_made}
-use Rattle.native_containers.specs.declared.take.Kind.{Kind}
-use Rattle.native_containers.specs.declared.take.Kind.TheVariants as kind
-use Rattle.native_containers.specs.Take.{is_of, items_at, entries_at, with_kind, with_own, with_lone, with_own_and, with_own_and_two, with_key, with_dict_and_key, with_default}
+use Rattle.row_kit.specs.declared.take_containers.Kind.TheVariants as kind
+use Rattle.native_containers.specs.Take.{with_kind, with_own, with_lone, with_own_and, with_own_and_two, with_key, with_dict_and_key, with_default}
 
 -- a container of more items than most would be too long
 abbrev pub unless_long : {A : Type 0} → PlainWorld → List A → Said → Said
@@ -32,12 +17,6 @@ abbrev pub counted : {A : Type 0} → PlainWorld → List A → Said
 counted w xs = number_told w (pos (length xs))
 
 -- tuples and lists
-
-abbrev pub tuple_made : PlainWorld → List PyObjectRef → Said
-tuple_made w rs = object_made w the_tuple (ATuple rs)
-
-abbrev pub list_made : PlainWorld → List PyObjectRef → Said
-list_made w rs = object_made w the_list (AList rs)
 
 -- only objects of one kind are joined
 abbrev pub with_like : Kind → PlainWorld → PyObjectRef → Said → Said
@@ -88,21 +67,9 @@ abbrev pub key_taken : PlainWorld → PyObjectRef → PyObjectRef → Option PyO
 key_taken w d k (Some old) = ends_none (with_entries w d (without_value_for (is_like w k) (entries_at w d)))
 key_taken w d k None = Ends w (fault MissingKey)
 
-abbrev pub keys_of : Entries → List PyObjectRef
-keys_of es = map (λ e. e.0) es
-
-abbrev pub values_of : Entries → List PyObjectRef
-values_of es = map (λ e. e.1) es
-
 -- an iterator over a new list
 abbrev pub list_iterated : PlainWorld → List PyObjectRef → Said
 list_iterated w rs = iterator_made (with_node w the_list (AList rs)) (next_node w the_list)
-
--- a new tuple for each key with its value, one after another, and then a new list of these
-abbrev pub pairs_made : PlainWorld → List PyObjectRef → Entries → Said
-pairs_made w rs [] = list_made w rs
-pairs_made w rs (e ∷ es) =
-    pairs_made (with_node w the_tuple (ATuple (e.0 ∷ e.1 ∷ []))) (rs ++ next_node w the_tuple ∷ []) es
 
 -- each key of another dict gets its value there
 abbrev pub dict_updated : PlainWorld → PyObjectRef → PyObjectRef → (PlainWorld → Said) → Said

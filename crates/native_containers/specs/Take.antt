@@ -1,41 +1,7 @@
 -- What the natives of containers take: an object of their kind, and arguments.
-use Rattle.std.specs.Prelude.{Bool, true, false, cond, is_some, ◌==◌, length, List, [], ◌∷◌, Option, Some}
-use Rattle.py_node.specs.declared.refs.PyObjectRef.{PyObjectRef}
-use Rattle.py_node.specs.declared.built_in.BuiltIn.{BuiltIn}
-use Rattle.py_node.specs.declared.built_in.BuiltIn.TheVariants as built_in
-use Rattle.py_node.specs.declared.raised.Cause.TheVariants.{ArgCount, SelfType, KeyType}
-use Rattle.plain_machine.specs.Dicts.{Entries, entries_in}
-use Rattle.plain_machine.specs.Plain.{Datum, ATuple, AList, ADict, AnIterator, PlainWorld, Bindings, Said, Ends}
-use Rattle.plain_machine.specs.Row.{none, fault}
-use Rattle.plain_machine.specs.Sound.{key_at}
-use Rattle.plain_machine.specs.Takes.{with_one, with_two, with_three}
-use Rattle.plain_machine.specs.World.{datum_at}
-use Rattle.class_world.specs.Listed.{items_in}
-use Rattle.native_containers.specs.declared.take.Kind.{Kind}
-use Rattle.native_containers.specs.declared.take.Kind.TheVariants as kind
-
--- whether an object is of a kind, by what it holds
-abbrev pub is_of : Kind → Option Datum → Bool
-is_of kind.Tuple (Some (ATuple rs)) = true
-is_of kind.List (Some (AList rs)) = true
-is_of kind.Dict (Some (ADict es)) = true
-is_of kind.Iterator (Some (AnIterator i)) = true
-is_of _ _ = false
-
--- the built-in class whose objects are of a kind
-abbrev pub home_of_kind : Kind → BuiltIn
-home_of_kind kind.Tuple = built_in.Tuple
-home_of_kind kind.List = built_in.List
-home_of_kind kind.Dict = built_in.Dict
-home_of_kind kind.Iterator = built_in.Iterator
-
--- the items of a tuple or a list
-abbrev pub items_at : PlainWorld → PyObjectRef → List PyObjectRef
-items_at w o = items_in (datum_at w o)
-
--- the entries of a dict
-abbrev pub entries_at : PlainWorld → PyObjectRef → Entries
-entries_at w d = entries_in (datum_at w d)
+use Rattle.native_containers.specs.Below.{cond, is_some, length, List, [], PyObjectRef, ArgCount, SelfType, KeyType, PlainWorld, Bindings, Said, Ends, none, fault, key_at, with_one, with_two, with_three, datum_at, Kind, is_of}
+use Rattle.std.specs.Prelude.{◌==◌, ◌∷◌}
+use Rattle.row_kit.specs.declared.take_containers.Kind.TheVariants as kind
 
 -- an argument that must be of a kind
 abbrev pub with_kind : Kind → PlainWorld → PyObjectRef → Said → Said

@@ -1,32 +1,23 @@
 //! The natives of dicts.
 
-ghost use Rattle.std.specs.Prelude.{◌≡◌, [], is_some, IfOk};
-ghost use Rattle.py_node.specs.declared.built_in.BuiltIn.TheVariants.{Dict};
-ghost use Rattle.py_node.specs.declared.raised.Cause.TheVariants.{MissingKey};
-ghost use Rattle.plain_machine.specs.Dicts.{with_entry};
-ghost use Rattle.plain_machine.specs.Plain.{Ends};
-ghost use Rattle.plain_machine.specs.Row.{fault, truth, value};
-ghost use Rattle.class_world.specs.Claims.{of_args, of_ended};
-ghost use Rattle.class_world.specs.Reading.{Reading, bindings};
-ghost use Rattle.class_world.specs.Sound.{AllHold, AreNodes, Grows, Holding, Holds, IsNode};
-ghost use Rattle.class_world.specs.Rows.{EndsAs, LeavesEnd};
-ghost use Rattle.native_containers.specs.Say.{counted, dict_changed, dict_say, dict_updated, ends_none, given_or, key_taken, keys_of, list_iterated, list_made, pairs_made, value_under, values_of};
-ghost use Rattle.native_containers.specs.Take.{entries_at, with_default, with_dict_and_key, with_key, with_lone, with_own, with_own_and, with_own_and_two};
-ghost use Rattle.native_containers.specs.declared.take.Kind.TheVariants as kind;
+ghost use Rattle.native_containers.specs.Below.{[], is_some, IfOk, Dict, MissingKey, with_entry, Ends, fault, truth, value, of_args, of_ended, Reading, bindings, AllHold, AreNodes, Grows, Holding, Holds, IsNode, EndsAs, LeavesEnd, keys_of, list_made, pairs_made, values_of, entries_at};
+ghost use Rattle.std.specs.Prelude.{◌≡◌};
+ghost use Rattle.native_containers.specs.Say.{counted, dict_changed, dict_say, dict_updated, ends_none, given_or, key_taken, list_iterated, value_under};
+ghost use Rattle.native_containers.specs.Take.{with_default, with_dict_and_key, with_key, with_lone, with_own, with_own_and, with_own_and_two};
+ghost use Rattle.row_kit.specs.declared.take_containers.Kind.TheVariants as kind;
 
-use crate::entries::{keys_of, values_of};
 use crate::init::{init, update_from};
 use crate::keys::has_room;
-use crate::made::{ends_none, new_list};
-use crate::pairs::new_pairs;
-use crate::take::{
-    Kind, dict_and_key, entries, key_refusal, lone, own, own_and, own_and_two, with_default,
-};
+use crate::made::ends_none;
+use crate::take::{dict_and_key, key_refusal, lone, own, own_and, own_and_two, with_default};
 use class_world::World;
-use native_base::give::new_iterator;
 use py_node::{
     Answer, BuiltIn, Cause, DictNative, OutOfMemory, Payload, PyObjectRef, PyStrInterned, Raised,
 };
+use row_kit::entries::{keys_of, values_of};
+use row_kit::give::new_iterator;
+use row_kit::give_containers::{new_list, new_pairs};
+use row_kit::take_containers::{Kind, entries};
 
 /// A native of dicts.
 pub fn dict_native(

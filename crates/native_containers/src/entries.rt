@@ -1,47 +1,12 @@
-//! The entries of dicts: their keys and values, and dicts with the entries of others.
+//! Dicts with the entries of others.
 
-ghost use Rattle.std.specs.Prelude.{◌≡◌, fold, IfOk};
-ghost use Rattle.plain_machine.specs.Dicts.{with_entry};
-ghost use Rattle.class_world.specs.Keyed.{of_keyed};
-ghost use Rattle.class_world.specs.Reading.{Reading, Reads, plain};
-ghost use Rattle.class_world.specs.Sound.{AllHold, Grows, Holds, IsNode};
-ghost use Rattle.native_containers.specs.Say.{keys_of, values_of};
-ghost use Rattle.native_containers.specs.Take.{entries_at};
+ghost use Rattle.native_containers.specs.Below.{fold, IfOk, with_entry, of_keyed, Reading, Reads, plain, AllHold, Grows, Holds, IsNode, entries_at};
+ghost use Rattle.std.specs.Prelude.{◌≡◌};
 
-use crate::take::entries;
 use class_world::World;
-use py_node::task::Args;
 use py_node::{OutOfMemory, Payload, PyDict, PyObjectRef};
-use std::alloc::Global;
-
-/// Keys with their values.
-pub(crate) type Entries = Vec<(PyObjectRef, PyObjectRef)>;
-
-/// The keys, in order.
-pub fn keys_of(alloc: Global, entries: &[(PyObjectRef, PyObjectRef)]) -> Result<Args, OutOfMemory>
-    ensures { IfOk result (λ rs. rs.items ≡ keys_of entries.now) }
-{
-    Ok(entries.iter().map(|entry| entry.0).collect(alloc)?)
-}
-
-/// The values, in the order of the keys.
-pub fn values_of(alloc: Global, entries: &[(PyObjectRef, PyObjectRef)]) -> Result<Args, OutOfMemory>
-    ensures { IfOk result (λ rs. rs.items ≡ values_of entries.now) }
-{
-    Ok(entries.iter().map(|entry| entry.1).collect(alloc)?)
-}
-
-/// The same entries again.
-pub(crate) fn copy_entries(
-    alloc: Global,
-    entries: &[(PyObjectRef, PyObjectRef)],
-) -> Result<Entries, OutOfMemory>
-    ensures { IfOk result (λ v. v.items ≡ entries.now) }
-{
-    let mut copy = Vec::new(alloc);
-    copy.extend_from_slice(entries)?;
-    Ok(copy)
-}
+use row_kit::entries::copy_entries;
+use row_kit::take_containers::entries;
 
 /// A dict with the entries of another one, one after another.
 pub(crate) fn with_entries(

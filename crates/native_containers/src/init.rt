@@ -1,22 +1,18 @@
 //! Dicts that get the entries of other dicts, and keywords.
 
-ghost use Rattle.std.specs.Prelude.{◌≡◌, Err, IfErr, IfOk};
-ghost use Rattle.py_node.specs.declared.built_in.BuiltIn.TheVariants.{Dict};
-ghost use Rattle.plain_machine.specs.Plain.{PlainWorld, Said, Ends};
-ghost use Rattle.class_world.specs.Claims.{of_args};
-ghost use Rattle.class_world.specs.Reading.{Reading, Reads, bindings, plain};
-ghost use Rattle.class_world.specs.Sound.{AllHold, Grows, Holding, Holds, IsName, IsNode, of_binding, of_each};
-ghost use Rattle.class_world.specs.Rows.{EndsAs, LeavesEnd};
+ghost use Rattle.native_containers.specs.Below.{Err, IfErr, IfOk, Dict, PlainWorld, Said, Ends, of_args, Reading, Reads, bindings, plain, AllHold, Grows, Holding, Holds, IsName, IsNode, of_binding, of_each, EndsAs, LeavesEnd};
+ghost use Rattle.std.specs.Prelude.{◌≡◌};
 ghost use Rattle.native_containers.specs.Say.{dict_filled, dict_updated, names_set};
 ghost use Rattle.native_containers.specs.Take.{with_own};
-ghost use Rattle.native_containers.specs.declared.take.Kind.TheVariants as kind;
+ghost use Rattle.row_kit.specs.declared.take_containers.Kind.TheVariants as kind;
 
 use crate::entries::with_entries;
 use crate::made::{change_dict, ends_none};
-use crate::take::{Kind, kind_refusal, own};
+use crate::take::{kind_refusal, own};
 use class_world::World;
 use class_world::limits::has_place;
 use py_node::{Answer, Cause, OutOfMemory, PyObjectRef, PyStrInterned, Raised};
+use row_kit::take_containers::Kind;
 
 /// Sets the entries of another dict, if there is one, and then keywords, in a dict.
 pub(crate) fn init(

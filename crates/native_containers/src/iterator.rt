@@ -1,15 +1,13 @@
 //! The natives of iterators.
 
 ghost use Rattle.std.specs.Prelude.{◌≡◌};
-ghost use Rattle.class_world.specs.Claims.{of_ended};
-ghost use Rattle.class_world.specs.Reading.{Reading, bindings};
-ghost use Rattle.class_world.specs.Sound.{AllHold, AreNodes, Holds};
-ghost use Rattle.class_world.specs.Rows.{EndsAs};
+ghost use Rattle.native_containers.specs.Below.{of_ended, Reading, bindings, AllHold, AreNodes, Holds, EndsAs};
 ghost use Rattle.native_containers.specs.Say.{iterator_say};
 
-use crate::take::{Kind, lone};
+use crate::take::lone;
 use class_world::World;
 use py_node::{Answer, Cause, IteratorNative, PyObjectRef, PyStrInterned, Raised};
+use row_kit::take_containers::Kind;
 
 /// A native of iterators.
 pub fn iterator_native(

@@ -1,17 +1,12 @@
 //! Room for keys in dicts.
 
-ghost use Rattle.std.specs.Prelude.{◌≡◌, length, nat_le};
-ghost use Rattle.py_node.specs.declared.refs.PyObjectRef.{PyObjectRef as Object};
-ghost use Rattle.plain_machine.specs.Dicts.{with_entry};
-ghost use Rattle.plain_machine.specs.Row.{most_items};
-ghost use Rattle.class_world.specs.Reading.{Reading, plain};
-ghost use Rattle.class_world.specs.Sound.{Holds, IsNode};
-ghost use Rattle.native_containers.specs.Take.{entries_at};
+ghost use Rattle.native_containers.specs.Below.{length, nat_le, PyObjectRef as Object, with_entry, most_items, Reading, plain, Holds, IsNode, entries_at};
+ghost use Rattle.std.specs.Prelude.{◌≡◌};
 
-use crate::take::entries;
 use class_world::World;
 use class_world::limits::{MOST_ITEMS, is_within_limit};
 use py_node::PyObjectRef;
+use row_kit::take_containers::entries;
 
 /// Whether a dict with a value under a key is not too long.
 pub(crate) fn has_room(world: &World, dict: PyObjectRef, key: PyObjectRef) -> bool

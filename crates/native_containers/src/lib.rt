@@ -1,4 +1,6 @@
-//! The natives of tuples, lists, dicts and iterators that ask no task.
+//! The natives of texts, tuples, lists, dicts and iterators.
+//!
+//! At the root: the natives of tuples, lists, dicts and iterators that ask no task.
 #![tactic(auto, using(class_world::proofs::Items::item_holds))]
 
 mod dict;
@@ -8,16 +10,15 @@ mod iterator;
 mod keys;
 mod list;
 pub mod made;
-mod pairs;
+pub mod native_compare;
+pub mod native_items;
+pub mod native_parts;
+pub mod native_texts;
 mod sequence;
 pub mod take;
 mod tuple;
 
 pub use dict::dict_native;
-pub use entries::{keys_of, values_of};
 pub use iterator::iterator_native;
 pub use list::list_native;
-pub use made::new_list;
-pub use pairs::new_pairs;
-pub use take::items;
 pub use tuple::tuple_native;

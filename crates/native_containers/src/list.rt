@@ -1,20 +1,20 @@
 //! The natives of lists.
 
-ghost use Rattle.std.specs.Prelude.{◌≡◌, ◌++◌, ◌∷◌, [], IfOk};
+ghost use Rattle.native_containers.specs.Below.{[], IfOk, Reading, bindings, AreNodes, Holding, Holds, IsNode, EndsAs, LeavesEnd, list_made, items_at};
+ghost use Rattle.std.specs.Prelude.{◌≡◌, ◌++◌, ◌∷◌};
 ghost use Rattle.py_node.specs.declared.built_in.BuiltIn.TheVariants.{List};
-ghost use Rattle.class_world.specs.Reading.{Reading, bindings};
-ghost use Rattle.class_world.specs.Sound.{AreNodes, Holding, Holds, IsNode};
-ghost use Rattle.class_world.specs.Rows.{EndsAs, LeavesEnd};
-ghost use Rattle.native_containers.specs.Say.{list_changed, list_made, list_say, with_joined};
-ghost use Rattle.native_containers.specs.Take.{items_at, with_own_and};
-ghost use Rattle.native_containers.specs.declared.take.Kind.TheVariants as kind;
+ghost use Rattle.native_containers.specs.Say.{list_changed, list_say, with_joined};
+ghost use Rattle.native_containers.specs.Take.{with_own_and};
+ghost use Rattle.row_kit.specs.declared.take_containers.Kind.TheVariants as kind;
 
-use crate::made::{ends_none, new_list};
+use crate::made::ends_none;
 use crate::sequence::{iter, joined, length};
-use crate::take::{Kind, items, own_and};
+use crate::take::own_and;
 use class_world::World;
 use class_world::limits::is_within_limit;
 use py_node::{Answer, Cause, ListNative, OutOfMemory, PyObjectRef, PyStrInterned, Raised};
+use row_kit::give_containers::new_list;
+use row_kit::take_containers::{Kind, items};
 
 /// A native of lists.
 pub fn list_native(

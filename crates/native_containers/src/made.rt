@@ -1,20 +1,14 @@
-//! New tuples and lists, and lists and dicts that change.
+//! Lists and dicts that change.
 
-ghost use Rattle.std.specs.Prelude.{◌≡◌, IfErr, IfOk, Err};
-ghost use Rattle.py_node.specs.declared.built_in.BuiltIn.TheVariants.{Dict, List};
-ghost use Rattle.plain_machine.specs.Plain.{PlainWorld, Said, Ends};
-ghost use Rattle.class_world.specs.Claims.{of_ended};
-ghost use Rattle.class_world.specs.Keyed.{of_keyed};
-ghost use Rattle.class_world.specs.Reading.{Reading, Reads, plain};
-ghost use Rattle.class_world.specs.Sound.{AllHold, AreNodes, Grows, Holding, Holds, IsNode};
-ghost use Rattle.class_world.specs.Rows.{EndsAs, LeavesEnd};
-ghost use Rattle.native_containers.specs.Say.{dict_changed, ends_none, list_changed, list_made, tuple_made};
+ghost use Rattle.native_containers.specs.Below.{IfErr, IfOk, Err, Dict, PlainWorld, Said, Ends, of_ended, of_keyed, Reading, Reads, plain, AllHold, AreNodes, Grows, Holding, Holds, IsNode, EndsAs};
+ghost use Rattle.std.specs.Prelude.{◌≡◌};
+ghost use Rattle.py_node.specs.declared.built_in.BuiltIn.TheVariants.{List};
+ghost use Rattle.native_containers.specs.Say.{dict_changed, ends_none, list_changed};
 
 use class_world::limits::is_within_limit;
 use class_world::{Fixed, World};
-use native_base::give::new_object;
 use py_node::task::Args;
-use py_node::{Answer, BuiltIn, Cause, OutOfMemory, Payload, PyDict, PyObjectRef, Raised};
+use py_node::{Answer, Cause, Payload, PyDict, PyObjectRef, Raised};
 
 /// Ends with None.
 pub fn ends_none(world: &World) -> Result<Answer, Raised>
@@ -22,26 +16,6 @@ pub fn ends_none(world: &World) -> Result<Answer, Raised>
     ensures holds { AllHold world.now (of_ended result) }
 {
     Ok(Answer::Value(world.fixed(Fixed::None)))
-}
-
-/// Ends with a new tuple.
-#[tactic(auto, unfolding(py_node::specs::BuiltIns::place_of))]
-pub fn new_tuple(world: &mut World, items: Args) -> Result<Result<Answer, Raised>, OutOfMemory>
-    requires { Holds world.old (AreNodes items.items) }
-    ensures ends { IfOk result (λ r. EndsAs (λ t u. tuple_made u items.items) world.old world.new r) }
-    ensures safe { LeavesEnd world.old world.new result }
-{
-    new_object(world, BuiltIn::Tuple, Payload::Tuple(items))
-}
-
-/// Ends with a new list.
-#[tactic(auto, unfolding(py_node::specs::BuiltIns::place_of))]
-pub fn new_list(world: &mut World, items: Args) -> Result<Result<Answer, Raised>, OutOfMemory>
-    requires { Holds world.old (AreNodes items.items) }
-    ensures ends { IfOk result (λ r. EndsAs (λ t u. list_made u items.items) world.old world.new r) }
-    ensures safe { LeavesEnd world.old world.new result }
-{
-    new_object(world, BuiltIn::List, Payload::List(items))
 }
 
 /// Gives a list other items, and ends with None, unless they are too many.

@@ -1,22 +1,17 @@
 //! What tuples and lists do alike.
 
-ghost use Rattle.std.specs.Prelude.{◌≡◌, ◌++◌, Err, IfErr, IfOk, List};
-ghost use Rattle.plain_machine.specs.Plain.{Said, Ends};
-ghost use Rattle.py_node.specs.declared.refs.PyObjectRef.{PyObjectRef as Object};
-ghost use Rattle.class_world.specs.Reading.{Reading, bindings, plain};
-ghost use Rattle.class_world.specs.Claims.{of_ended};
-ghost use Rattle.class_world.specs.Sound.{AllHold, AreNodes, Holds};
-ghost use Rattle.class_world.specs.Rows.{EndsAs, LeavesEnd};
-ghost use Rattle.native_base.specs.Say.{iterator_made};
+ghost use Rattle.native_containers.specs.Below.{Err, IfErr, IfOk, List, Said, Ends, PyObjectRef as Object, Reading, bindings, plain, of_ended, AllHold, AreNodes, Holds, EndsAs, LeavesEnd, iterator_made, items_at};
+ghost use Rattle.std.specs.Prelude.{◌≡◌, ◌++◌};
 ghost use Rattle.native_containers.specs.Say.{counted, with_joined};
-ghost use Rattle.native_containers.specs.Take.{items_at, with_lone};
+ghost use Rattle.native_containers.specs.Take.{with_lone};
 
-use crate::take::{Kind, is_of, items, lone, own_and};
+use crate::take::{lone, own_and};
 use class_world::World;
 use class_world::limits::is_within_limit;
-use native_base::give::new_iterator;
 use py_node::task::Args;
 use py_node::{Answer, Cause, OutOfMemory, PyObjectRef, PyStrInterned, Raised};
+use row_kit::give::new_iterator;
+use row_kit::take_containers::{Kind, is_of, items};
 use std::alloc::Global;
 
 /// How many items a tuple or a list has.

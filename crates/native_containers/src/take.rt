@@ -1,74 +1,13 @@
 //! What these natives take: an object of their kind, alone or with arguments.
 
-ghost use Rattle.std.specs.Prelude.{◌≡◌, [], ◌∷◌, Err, IfErr, IfNone, IfOk, IfSome, IsTrue, Some};
-ghost use Rattle.plain_machine.specs.Plain.{Said, Ends};
-ghost use Rattle.plain_machine.specs.World.{datum_at};
-ghost use Rattle.py_node.specs.declared.built_in.BuiltIn.TheVariants.{Dict};
-ghost use Rattle.py_node.specs.declared.refs.PyObjectRef.{PyObjectRef as Object};
-ghost use Rattle.class_world.specs.Keyed.{of_entries};
-ghost use Rattle.class_world.specs.Reading.{Reading, bindings, datum, plain};
-ghost use Rattle.class_world.specs.Sound.{AllHold, AreNodes, CanBeKeys, Holding, Holds, IsNode, home_of};
-ghost use Rattle.native_containers.specs.Take.{entries_at, home_of_kind, is_of, items_at, with_default, with_dict_and_key, with_key, with_kind, with_own, with_lone, with_own_and, with_own_and_two};
+ghost use Rattle.native_containers.specs.Below.{[], Err, IfErr, IfNone, IfOk, IfSome, Some, Said, Ends, Dict, PyObjectRef as Object, Reading, bindings, plain, AreNodes, CanBeKeys, Holding, Holds, IsNode, home_of_kind, is_of};
+ghost use Rattle.std.specs.Prelude.{◌≡◌, ◌∷◌};
+ghost use Rattle.native_containers.specs.Take.{with_default, with_dict_and_key, with_key, with_kind, with_own, with_lone, with_own_and, with_own_and_two};
 
 use class_world::takes::{one, three, two};
 use class_world::{Fixed, World};
-use py_node::{Cause, Payload, PyObjectRef, PyStrInterned, Raised};
-
-/// A kind of objects whose natives are here.
-#[derive(Clone, Copy)]
-pub enum Kind {
-    Tuple,
-    List,
-    Dict,
-    Iterator,
-}
-
-/// Whether an object is of a kind.
-pub fn is_of(world: &World, kind: Kind, object: PyObjectRef) -> bool
-    requires { Holds world.now (IsNode object) }
-    ensures is { (t : Reading) → is_of kind (datum_at (plain t world.now) object) ≡ result }
-    ensures holding { IsTrue result → Holds world.now (Holding object (home_of_kind kind)) }
-{
-    holds(world.payload(object), kind)
-}
-
-// Whether such is what objects of a kind hold.
-fn holds(payload: &Payload, kind: Kind) -> bool
-    ensures is { (t : Reading) → is_of kind (Some (datum t payload.now)) ≡ result }
-    ensures home { IsTrue result → home_of payload.now ≡ home_of_kind kind }
-{
-    match kind {
-        Kind::Tuple => matches!(payload, Payload::Tuple(_)),
-        Kind::List => matches!(payload, Payload::List(_)),
-        Kind::Dict => matches!(payload, Payload::Dict(_)),
-        Kind::Iterator => matches!(payload, Payload::Iterator(_)),
-    }
-}
-
-/// The items of a tuple or a list.
-pub fn items(world: &World, object: PyObjectRef) -> &[PyObjectRef]
-    requires { Holds world.now (IsNode object) }
-    ensures same { (t : Reading) → items_at (plain t world.now) object ≡ result.now }
-    ensures holds { Holds world.now (AreNodes result.now) }
-{
-    match world.payload(object) {
-        Payload::Tuple(items) => items,
-        Payload::List(items) => items,
-        _ => &[],
-    }
-}
-
-/// The entries of a dict.
-pub fn entries(world: &World, object: PyObjectRef) -> &[(PyObjectRef, PyObjectRef)]
-    requires { Holds world.now (IsNode object) }
-    ensures same { (t : Reading) → entries_at (plain t world.now) object ≡ result.now }
-    ensures holds { AllHold world.now (of_entries result.now) }
-{
-    match world.payload(object) {
-        Payload::Dict(dict) => dict.entries(),
-        _ => &[],
-    }
-}
+use py_node::{Cause, PyObjectRef, PyStrInterned, Raised};
+use row_kit::take_containers::{Kind, is_of};
 
 /// The first argument, which must be of a kind, or why it is refused.
 pub fn own(world: &World, kind: Kind, args: &[PyObjectRef]) -> Result<PyObjectRef, Raised>

@@ -1,17 +1,15 @@
 //! The natives of tuples.
 
-ghost use Rattle.std.specs.Prelude.{◌≡◌, IfOk};
-ghost use Rattle.class_world.specs.Reading.{Reading, bindings};
-ghost use Rattle.class_world.specs.Sound.{AreNodes, Holds};
-ghost use Rattle.class_world.specs.Rows.{EndsAs, LeavesEnd};
-ghost use Rattle.native_containers.specs.Say.{tuple_made, tuple_say, with_joined};
-ghost use Rattle.native_containers.specs.declared.take.Kind.TheVariants as kind;
+ghost use Rattle.native_containers.specs.Below.{IfOk, Reading, bindings, AreNodes, Holds, EndsAs, LeavesEnd, tuple_made};
+ghost use Rattle.std.specs.Prelude.{◌≡◌};
+ghost use Rattle.native_containers.specs.Say.{tuple_say, with_joined};
+ghost use Rattle.row_kit.specs.declared.take_containers.Kind.TheVariants as kind;
 
-use crate::made::new_tuple;
 use crate::sequence::{iter, joined, length};
-use crate::take::Kind;
 use class_world::World;
 use py_node::{Answer, Cause, OutOfMemory, PyObjectRef, PyStrInterned, Raised, TupleNative};
+use row_kit::give_containers::new_tuple;
+use row_kit::take_containers::Kind;
 
 /// A native of tuples.
 pub fn tuple_native(

@@ -1,17 +1,7 @@
 -- What a report's earlier lines tell, and which line is the first wrong one.
-use Rattle.std.proofs.Common.{◌≡◌, ℕ, zero, suc, ◌+◌, ◌<◌, Bool, true, List, [], ◌∷◌, length, get_or, take, map, Option, Some, None, inl, inr, refl, sym, ap, subst, ◌∙◌, arith, below_more}
-use Rattle.std.specs.Prelude.{◌↔◌, option_map, option_and_then, slice_get}
-use Rattle.class_model.specs.Order.{least_order, all_some, Includes}
-use Rattle.class_model.specs.Class.{bases_of}
-use Rattle.class_model.proofs.Rule.{lin-rule}
-use Rattle.mro_merge.proofs.Steps.{least_order-merged, merged-empty}
-use Rattle.order_check.specs.declared.hierarchy.Entry.{Entry}
-use Rattle.order_check.specs.declared.report.Line.{Line}
-use Rattle.order_check.specs.declared.report.Line.TheVariants.{Order, Cycle, Without}
-use Rattle.order_check.specs.Hierarchy.{classes, keys_of, order_in, IsInOrder}
-use Rattle.order_check.specs.Known.{known_in}
-use Rattle.order_check.specs.Report.{OnBoth, IsLine, IsRightAt}
-use Rattle.order_check.specs.Told.{order_told, orders_told, AreToldTo}
+use Rattle.order_check.proofs.Below.{ℕ, zero, suc, Bool, true, List, [], length, get_or, take, map, Option, Some, None, inl, inr, refl, sym, ap, subst, ◌∙◌, arith, below_more, option_map, option_and_then, slice_get, least_order, all_some, Includes, bases_of, lin-rule, least_order-merged, merged-empty, Entry, Line, Order, Cycle, Without, classes, keys_of, order_in, IsInOrder, known_in, OnBoth, IsLine, IsRightAt, order_told, orders_told, AreToldTo}
+use Rattle.std.proofs.Common.{◌≡◌, ◌+◌, ◌<◌, ◌∷◌}
+use Rattle.std.specs.Prelude.{◌↔◌}
 use Rattle.order_check.proofs.Places.{key-at, bases-at, known-at}
 use Rattle.order_check.proofs.Telling.{none-there}
 use Rattle.order_check.proofs.Deciding.{cycle-none, no-order}

@@ -1,12 +1,6 @@
 -- A class has an order exactly where its lists have no cycle.
-use Rattle.std.proofs.Common.{◌≡◌, ℕ, List, [], ◌∷◌, ◌++◌, inl, inr, refl, sym, ap, subst}
-use Rattle.std.specs.List.{flat_map}
-use Rattle.class_model.specs.Order.{Includes, Subsequence}
-use Rattle.mro_merge.specs.Merge.{IsMerge}
-use Rattle.order_check.specs.Cycle.{HasNoCycle}
-use Rattle.class_model.specs.Order.{members_of, IsOrder}
-use Rattle.order_check.specs.Orders.{lists_of, HasOrder, IsOrderedOrCyclic}
-use Rattle.class_model.proofs.Held.{Includes-equal, Includes-flat_map, from_flat_map, Includes-left, Includes-right, Includes-sides, Subsequence-more, Subsequence-holds, Subsequence-rest}
+use Rattle.order_check.proofs.Below.{ℕ, List, [], inl, inr, refl, sym, ap, subst, flat_map, Includes, Subsequence, IsMerge, HasNoCycle, members_of, IsOrder, lists_of, HasOrder, IsOrderedOrCyclic, Includes-equal, Includes-flat_map, from_flat_map, Includes-left, Includes-right, Includes-sides, Subsequence-more, Subsequence-holds, Subsequence-rest}
+use Rattle.std.proofs.Common.{◌≡◌, ◌∷◌, ◌++◌}
 use Rattle.order_check.proofs.Fact.{merged_or_cyclic}
 
 module _ (c : ℕ) (bs : List ℕ) (ls : List (List ℕ)) (apart : (l : List ℕ) → Includes ls l → Includes l c → ⊥) (based : (b : ℕ) → Includes bs b → (l : List ℕ) × Includes ls l × Includes l b) where

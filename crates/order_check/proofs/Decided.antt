@@ -1,11 +1,6 @@
 -- What the tests of cycles decide.
-use Rattle.std.proofs.Common.{ℕ, true, ◌&&◌, eqb, List, [], ◌∷◌, ap}
-use Rattle.std.specs.Bool.{Decides}
-use Rattle.std.proofs.lemmas.Bool.{false≢true, and_parts}
-use Rattle.std.proofs.lemmas.Bool.Decides.{Decides-eqb, Decides-and, Decides-or}
-use Rattle.class_model.specs.Order.{has}
-use Rattle.order_check.specs.Cycle.{Before, BeforeIn, IsChain, is_before, is_before_in, are_chained}
-use Rattle.class_model.proofs.Tests.{Decides-has}
+use Rattle.order_check.proofs.Below.{ℕ, true, eqb, List, [], ap, Decides, false≢true, and_parts, Decides-eqb, Decides-and, Decides-or, has, Before, BeforeIn, IsChain, is_before, is_before_in, are_chained, Decides-has}
+use Rattle.std.proofs.Common.{◌&&◌, ◌∷◌}
 
 pub Decides-before : (l : List ℕ) (x y : ℕ) → Decides (is_before x y l) (Before l x y)
 Decides-before [] x y = (λ e. absurd (false≢true e), λ h. absurd h)

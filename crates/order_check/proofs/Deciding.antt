@@ -1,23 +1,7 @@
 -- What the tests of a line decide.
-use Rattle.std.proofs.Common.{◌≡◌, ℕ, ◌≤◌, Bool, true, cond, ◌&&◌, eqb, leb, List, [], ◌∷◌, map, length, Option, Some, None, inl, inr, refl, sym, ap, subst, ◌∙◌, arith}
-use Rattle.std.specs.Prelude.{◌↔◌, is_none, option_map, option_and_then}
-use Rattle.std.proofs.lemmas.Bool.{eqb-true, eq-eqb, leb-true, le-leb, and_parts, false≢true}
-use Rattle.class_model.specs.Order.{is_distinct, least_order, all_some, Includes}
-use Rattle.class_model.specs.Class.{bases_of}
-use Rattle.class_model.proofs.Arranged.{least_order-order}
-use Rattle.class_model.proofs.Linear.{all_some-holds}
-use Rattle.class_model.proofs.Lines.{all_some-some}
-use Rattle.class_model.proofs.Rule.{all_some-map, lin-rule}
-use Rattle.class_model.proofs.Tests.{Decides-distinct}
-use Rattle.mro_merge.specs.Merge.{IsApart}
-use Rattle.mro_merge.proofs.Steps.{least_order-merged}
-use Rattle.order_check.specs.declared.hierarchy.Entry.{Entry}
-use Rattle.order_check.specs.declared.report.Pair.{Pair}
-use Rattle.order_check.specs.Cycle.{is_before_in, are_chained, first_or, IsCycle, BeginsWithLeast}
-use Rattle.order_check.specs.Hierarchy.{classes, order_in}
-use Rattle.order_check.specs.Orders.{lists_of}
-use Rattle.order_check.specs.Report.{list_with, pair_in, pairs_to, pairs_of, first_without, TellsCycle, IsCycleLine}
-use Rattle.order_check.specs.Told.{or_empty, firsts, is_least, is_same_list, is_told, are_told, tells_cycle, merged_order}
+use Rattle.order_check.proofs.Below.{ℕ, Bool, true, cond, eqb, List, [], map, length, Option, Some, None, inl, inr, refl, sym, ap, subst, ◌∙◌, arith, is_none, option_map, option_and_then, eqb-true, eq-eqb, leb-true, le-leb, and_parts, false≢true, is_distinct, least_order, all_some, Includes, bases_of, least_order-order, all_some-holds, all_some-some, all_some-map, lin-rule, Decides-distinct, IsApart, least_order-merged, Entry, Pair, is_before_in, are_chained, first_or, IsCycle, BeginsWithLeast, classes, order_in, lists_of, list_with, pair_in, pairs_to, pairs_of, first_without, TellsCycle, IsCycleLine, or_empty, firsts, is_least, is_same_list, is_told, are_told, tells_cycle, merged_order}
+use Rattle.std.proofs.Common.{◌≡◌, ◌≤◌, ◌&&◌, leb, ◌∷◌}
+use Rattle.std.specs.Prelude.{◌↔◌}
 use Rattle.order_check.proofs.ClassFact.{ordered_or_cyclic}
 use Rattle.order_check.proofs.Decided.{Decides-chained}
 use Rattle.order_check.proofs.Knowing.{never-below}

@@ -1,9 +1,6 @@
 -- Lists have a merge exactly where they have no cycle.
-use Rattle.std.proofs.Common.{◌≡◌, ℕ, ◌≤◌, List, [], ◌∷◌, length, Option, Some, None, inl, refl, sym, subst, arith}
-use Rattle.mro_merge.specs.Merge.{heads}
-use Rattle.class_model.specs.Order.{Includes}
-use Rattle.order_check.specs.Cycle.{HasMerge, HasNoCycle, IsCycle, BeginsWithLeast, IsMergedOrCyclic, IsAnswer}
-use Rattle.order_check.specs.Found.{left, walk, found_from, cycle_of}
+use Rattle.order_check.proofs.Below.{ℕ, List, [], length, Option, Some, None, inl, refl, sym, subst, arith, heads, Includes, HasMerge, HasNoCycle, IsCycle, BeginsWithLeast, IsMergedOrCyclic, IsAnswer, left, walk, found_from, cycle_of}
+use Rattle.std.proofs.Common.{◌≡◌, ◌≤◌, ◌∷◌}
 use Rattle.order_check.proofs.Ordered.{merge-no_cycle}
 use Rattle.order_check.proofs.Stuck.{left-stuck, left-merge, left-cycle}
 use Rattle.order_check.proofs.Walked.{walk-cycle}

@@ -1,14 +1,6 @@
 -- Orders that are found level by level.
-use Rattle.std.proofs.Common.{◌≡◌, ℕ, ◌<◌, true, List, [], ◌∷◌, ◌++◌, length, get_or, set, map, All, Option, Some, None, Ok, sym, ap, subst, ◌∙◌}
-use Rattle.std.specs.Prelude.{Result, Err, IfOk, IfSome, MatchResult, is_some, option_to_list}
-use Rattle.std.specs.List.{AllZip}
-use Rattle.std.specs.Global.{Vec}
-use Rattle.std.proofs.lemmas.List.{length-set}
-use Rattle.std.proofs.lemmas.List.Elements.{All-nil, All-cons, All-pop}
-use Rattle.order_check.specs.declared.hierarchy.Entry.{Entry}
-use Rattle.order_check.specs.declared.levels.Found.{Found}
-use Rattle.order_check.specs.Hierarchy.{keys_of, order_in, orders, AreKeyed}
-use Rattle.order_check.specs.Known.{known_in, over, AreKnown, CanFind, IsFound}
+use Rattle.order_check.proofs.Below.{ℕ, true, List, [], length, get_or, set, map, All, Option, Some, None, Ok, sym, ap, subst, ◌∙◌, Result, Err, IfOk, IfSome, MatchResult, is_some, option_to_list, AllZip, Vec, length-set, All-nil, All-cons, All-pop, Entry, Found, keys_of, order_in, orders, AreKeyed, known_in, over, AreKnown, CanFind, IsFound}
+use Rattle.std.proofs.Common.{◌≡◌, ◌<◌, ◌∷◌, ◌++◌}
 use Rattle.order_check.proofs.Knowing.{order-over, known-right}
 use Rattle.order_check.proofs.Places.{key-at, bases-at}
 use Rattle.order_check.proofs.Tables.{items_of, orders-set, orders-length}

@@ -1,13 +1,6 @@
 -- Keys that differ, and bases that come earlier.
-use Rattle.std.proofs.Common.{◌≡◌, ℕ, zero, suc, ◌+◌, ◌-◌, ◌<◌, ◌≤◌, List, [], ◌∷◌, length, get_or, take, Some, inl, inr, refl, sym, ap, subst, ◌∙◌, arith}
-use Rattle.std.specs.Prelude.{slice_get}
-use Rattle.std.proofs.lemmas.List.{take_more}
-use Rattle.std.proofs.lemmas.Option.{slice_get_within}
-use Rattle.class_model.specs.Order.{Includes, Distinct}
-use Rattle.class_model.proofs.Held.{Includes-sides}
-use Rattle.order_check.specs.declared.hierarchy.Entry.{Entry}
-use Rattle.order_check.specs.Hierarchy.{keys_of, AreKeyed, IsInOrder}
-use Rattle.order_check.specs.Forms.{AreAscending, AreBefore, AreEarlierTo}
+use Rattle.order_check.proofs.Below.{ℕ, zero, suc, List, [], length, get_or, take, Some, inl, inr, refl, sym, ap, subst, ◌∙◌, arith, slice_get, take_more, slice_get_within, Includes, Distinct, Includes-sides, Entry, keys_of, AreKeyed, IsInOrder, AreAscending, AreBefore, AreEarlierTo}
+use Rattle.std.proofs.Common.{◌≡◌, ◌+◌, ◌-◌, ◌<◌, ◌≤◌, ◌∷◌}
 use Rattle.order_check.proofs.Paired.{before-or-at}
 
 pub ascend-none : (keys : List ℕ) → AreAscending keys 1

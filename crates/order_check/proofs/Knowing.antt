@@ -1,16 +1,6 @@
 -- What is known of the linearisations, and what follows when nothing more is found.
-use Rattle.std.proofs.Common.{◌≡◌, ℕ, zero, suc, ◌<◌, Bool, true, false, cond, eqb, List, [], ◌∷◌, length, get_or, set, map, Option, Some, None, refl, sym, ap, subst, ◌∙◌, arith}
-use Rattle.std.specs.Prelude.{option_map, option_and_then}
-use Rattle.std.proofs.lemmas.Bool.{eqb-true}
-use Rattle.class_model.specs.Order.{least_order, all_some, linear, Includes, Distinct, BeginsWith}
-use Rattle.class_model.specs.Class.{bases_of}
-use Rattle.mro_merge.specs.Merge.{AreLinesOf, IsApart}
-use Rattle.order_check.specs.declared.hierarchy.Entry.{Entry}
-use Rattle.order_check.specs.Hierarchy.{classes, keys_of, order_in, AreKeyed, all_orders}
-use Rattle.order_check.specs.Known.{known_in, over, step, AreKnown, IsClosedAt, IsClosedTo}
-use Rattle.class_model.proofs.Linear.{linear-made, linear-zero, linear-grows, all_some-at, all_some-holds, all_some-has}
-use Rattle.class_model.proofs.Depth.{linear-member}
-use Rattle.class_model.proofs.Rule.{lin-begins, lin-distinct, lin-from, lin-rule}
+use Rattle.order_check.proofs.Below.{ℕ, zero, suc, Bool, true, false, cond, eqb, List, [], length, get_or, set, map, Option, Some, None, refl, sym, ap, subst, ◌∙◌, arith, option_map, option_and_then, eqb-true, least_order, all_some, linear, Includes, Distinct, BeginsWith, bases_of, AreLinesOf, IsApart, Entry, classes, keys_of, order_in, AreKeyed, all_orders, known_in, over, step, AreKnown, IsClosedAt, IsClosedTo, linear-made, linear-zero, linear-grows, all_some-at, all_some-holds, all_some-has, linear-member, lin-begins, lin-distinct, lin-from, lin-rule}
+use Rattle.std.proofs.Common.{◌≡◌, ◌<◌, ◌∷◌}
 use Rattle.order_check.proofs.Places.{held-at, bases-held, known-at, known-set}
 
 -- no base of a class has the class along its linearisation

@@ -1,3 +1,5 @@
+pub mod Lemmas
+pub mod Below
 pub mod Merged
 pub mod Single
 pub mod Ordered
@@ -24,3 +26,6 @@ pub mod Keyed
 pub mod Ranking
 pub mod WellFounded
 pub mod Finding
+pub mod ClassOrders
+pub mod HierarchyText
+pub mod ReportText

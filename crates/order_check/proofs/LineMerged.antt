@@ -1,13 +1,7 @@
 -- A line passes the test a member at a time exactly where it is the merge.
-use Rattle.std.proofs.Common.{◌≡◌, ℕ, Bool, true, false, cond, not, ◌&&◌, eqb, List, [], ◌∷◌, ◌++◌, Option, Some, None, inl, inr, refl, sym, ap, ◌∙◌}
-use Rattle.std.specs.Prelude.{option_map, ◌↔◌}
-use Rattle.std.proofs.lemmas.Bool.{eq-eqb, ne_eqb, eqb-true, cases_eq, and_parts, false≢true}
-use Rattle.class_model.specs.Order.{has, without, Includes}
-use Rattle.mro_merge.specs.Steps.{first_free, are_empty, struck, merged, past}
-use Rattle.order_check.specs.Line.{rest, is_same, is_led}
-use Rattle.class_model.proofs.Held.{Includes-left, Includes-right, Includes-sides}
-use Rattle.class_model.proofs.Tests.{Decides-has}
-use Rattle.mro_merge.proofs.Steps.{merged-empty, merged-stuck, merged-step}
+use Rattle.order_check.proofs.Below.{ℕ, Bool, true, false, cond, not, eqb, List, [], Option, Some, None, inl, inr, refl, sym, ap, ◌∙◌, option_map, eq-eqb, ne_eqb, eqb-true, cases_eq, and_parts, false≢true, has, without, Includes, first_free, are_empty, struck, merged, past, rest, is_same, is_led, Includes-left, Includes-right, Includes-sides, Decides-has, merged-empty, merged-stuck, merged-step}
+use Rattle.std.proofs.Common.{◌≡◌, ◌&&◌, ◌∷◌, ◌++◌}
+use Rattle.std.specs.Prelude.{◌↔◌}
 
 empty-none : (all ls : List (List ℕ)) → are_empty ls ≡ true → first_free all ls ≡ None
 empty-none all [] e = refl

@@ -1,8 +1,6 @@
 -- Lists mapped in place, one after the other.
-use Rattle.std.proofs.Common.{◌≡◌, ℕ, ◌+◌, ◌<◌, List, [], ◌∷◌, ◌++◌, length, get_or, set, map, take, drop, sym, ap, ◌∙◌, arith, append_assoc}
-use Rattle.std.specs.Global.{Vec}
-use Rattle.order_check.specs.Lists.{rows}
-use Rattle.std.proofs.lemmas.List.{length-append, take-append-drop, map-set, get_or-map, drop_more, map_more, set_at, get_or_at, length-map, length-take-le}
+use Rattle.order_check.proofs.Below.{ℕ, List, [], length, get_or, set, map, take, drop, sym, ap, ◌∙◌, arith, append_assoc, Vec, rows, length-append, take-append-drop, map-set, get_or-map, drop_more, map_more, set_at, get_or_at, length-map, length-take-le}
+use Rattle.std.proofs.Common.{◌≡◌, ◌+◌, ◌<◌, ◌∷◌, ◌++◌}
 
 pub mapped-step : {A : Type 0} (f : A → A) (orig cur : List A) (i : ℕ) (d : A) → i < length orig → cur ≡ map f (take i orig) ++ drop i orig → set cur i (f (get_or cur i d)) ≡ map f (take (i + 1) orig) ++ drop (i + 1) orig
 mapped-step {A = A} f orig cur i d l is =

@@ -1,15 +1,6 @@
 -- A free member can go first in a merge.
-use Rattle.std.proofs.Common.{◌≡◌, ℕ, false, cond, not, List, [], ◌∷◌, inl, inr, refl, sym, ap, subst, ◌∙◌}
-use Rattle.std.specs.List.{flat_map}
-use Rattle.std.proofs.lemmas.Bool.{eq-eqb, cases_eq, false≢true}
-use Rattle.class_model.specs.Order.{has, without, Includes, Subsequence}
-use Rattle.class_model.specs.Class.{past_first}
-use Rattle.mro_merge.specs.Merge.{IsMerge}
-use Rattle.mro_merge.specs.Steps.{struck}
-use Rattle.class_model.proofs.Held.{Includes-equal, Includes-map, from_without}
-use Rattle.class_model.proofs.Tests.{Decides-has}
-use Rattle.mro_merge.proofs.Struck.{without-none, flat-struck}
-use Rattle.mro_merge.proofs.Merged.{Free}
+use Rattle.order_check.proofs.Below.{ℕ, false, cond, not, List, [], inl, inr, refl, sym, ap, subst, ◌∙◌, flat_map, eq-eqb, cases_eq, false≢true, has, without, Includes, Subsequence, past_first, IsMerge, struck, Includes-equal, Includes-map, from_without, Decides-has, without-none, flat-struck, Free}
+use Rattle.std.proofs.Common.{◌≡◌, ◌∷◌}
 
 unstruck : (x : ℕ) (ls : List (List ℕ)) (z : ℕ) → Includes (flat_map (λ l. l) (struck x ls)) z → Includes (flat_map (λ l. l) ls) z × (z ≡ x → ⊥)
 unstruck x ls z h = from_without x z (flat_map (λ l. l) ls) (let P : List ℕ → Type 0 = λ l. Includes l z in subst P (flat-struck x ls) h)

@@ -1,9 +1,6 @@
 -- Lists with a merge have no cycle.
-use Rattle.std.proofs.Common.{ℕ, List, [], ◌∷◌, inl, inr, refl, sym, ◌∙◌}
-use Rattle.class_model.specs.Order.{Includes, Distinct, Subsequence}
-use Rattle.mro_merge.specs.Merge.{IsMerge}
-use Rattle.order_check.specs.Cycle.{Before, BeforeIn, IsChain, IsCycle, HasMerge, HasNoCycle}
-use Rattle.class_model.proofs.Held.{Includes-equal, Subsequence-holds}
+use Rattle.order_check.proofs.Below.{ℕ, List, [], inl, inr, refl, sym, ◌∙◌, Includes, Distinct, Subsequence, IsMerge, Before, BeforeIn, IsChain, IsCycle, HasMerge, HasNoCycle, Includes-equal, Subsequence-holds}
+use Rattle.std.proofs.Common.{◌∷◌}
 
 pub before-kept : (l xs : List ℕ) (x y : ℕ) → Subsequence l xs → Before l x y → Before xs x y
 before-kept [] xs x y s b = absurd b

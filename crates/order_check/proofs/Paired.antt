@@ -1,10 +1,6 @@
 -- Classes and their lines, one beside the other.
-use Rattle.std.proofs.Common.{◌≡◌, ℕ, zero, suc, ◌+◌, ◌<◌, ◌≤◌, List, [], ◌∷◌, ◌++◌, length, get_or, Option, Some, None, ◌⊎◌, inl, inr, refl, sym, ap, subst, ◌∙◌, arith, length-append}
-use Rattle.std.specs.Prelude.{slice_get}
-use Rattle.std.proofs.lemmas.Option.{slice_get_past, slice_get_read}
-use Rattle.order_check.specs.declared.hierarchy.Entry.{Entry}
-use Rattle.order_check.specs.declared.report.Line.{Line}
-use Rattle.order_check.specs.Report.{OnBoth}
+use Rattle.order_check.proofs.Below.{ℕ, zero, suc, List, [], length, get_or, Option, Some, None, inl, inr, refl, sym, ap, subst, ◌∙◌, arith, slice_get, slice_get_past, slice_get_read, Entry, Line, OnBoth}
+use Rattle.std.proofs.Common.{◌≡◌, ◌+◌, ◌<◌, ◌≤◌, ◌∷◌, ◌++◌, ◌⊎◌, length-append}
 
 get-before : {A : Type 0} (xs : List A) (x : A) (k : ℕ) → k < length xs → slice_get (xs ++ x ∷ []) k ≡ slice_get xs k
 get-before [] x k l = absurd (omega arith)

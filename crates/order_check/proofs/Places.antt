@@ -1,14 +1,6 @@
 -- Entries, their keys, and what is known of them, by their places.
-use Rattle.std.proofs.Common.{◌≡◌, ℕ, zero, suc, ◌<◌, Bool, true, false, cond, eqb, List, [], ◌∷◌, length, get_or, set, Option, Some, None, inl, inr, refl, sym, ap, subst, ◌∙◌, arith}
-use Rattle.std.specs.Prelude.{option_map, slice_get, string_bytes}
-use Rattle.std.proofs.lemmas.Bool.{eq-eqb, ne_eqb, eqb-true}
-use Rattle.std.proofs.lemmas.List.{get_or-map}
-use Rattle.std.proofs.lemmas.Option.{slice_get_within, slice_get-get_or}
-use Rattle.class_model.specs.Order.{Includes}
-use Rattle.class_model.specs.Class.{Class, class_at, bases_of}
-use Rattle.order_check.specs.declared.hierarchy.Entry.{Entry}
-use Rattle.order_check.specs.Hierarchy.{class_of, classes, keys_of, name_in, AreKeyed}
-use Rattle.order_check.specs.Known.{known_in, unknown}
+use Rattle.order_check.proofs.Below.{ℕ, zero, suc, Bool, true, false, cond, eqb, List, [], length, get_or, set, Option, Some, None, inl, inr, refl, sym, ap, subst, ◌∙◌, arith, option_map, slice_get, string_bytes, eq-eqb, ne_eqb, eqb-true, get_or-map, slice_get_within, slice_get-get_or, Includes, Class, class_at, bases_of, Entry, class_of, classes, keys_of, name_in, AreKeyed, known_in, unknown}
+use Rattle.std.proofs.Common.{◌≡◌, ◌<◌, ◌∷◌}
 
 pub key-at : (h : List Entry) (i : ℕ) (e : Entry) → i < length h → e ≡ get_or h i e → get_or (keys_of h) i 0 ≡ e.key
 key-at h i e l is = get_or-map (λ (x : Entry). x.key) h i e 0 l ∙ ap (λ (x : Entry). x.key) (sym is)

@@ -1,15 +1,7 @@
 -- Ranks of classes: a class has a greater one than its bases.
-use Rattle.std.proofs.Common.{◌≡◌, ℕ, zero, suc, ◌+◌, ◌<◌, ◌≤◌, Bool, true, false, ◌&&◌, cond, eqb, List, [], ◌∷◌, ◌++◌, length, get_or, set, Option, Some, None, inl, inr, refl, sym, ap, subst, ◌∙◌, arith, below_more}
-use Rattle.std.specs.Prelude.{◌↔◌, is_some}
-use Rattle.std.proofs.lemmas.Bool.{eqb-true, and_parts, false≢true, both_ways}
-use Rattle.class_model.specs.Order.{has, Includes, Distinct}
-use Rattle.class_model.specs.Class.{bases_of}
-use Rattle.class_model.proofs.Held.{distinct-fewer, Includes-equal}
-use Rattle.class_model.proofs.Tests.{Decides-has}
-use Rattle.order_check.specs.declared.hierarchy.Entry.{Entry}
-use Rattle.order_check.specs.Hierarchy.{classes, keys_of, AreKeyed}
-use Rattle.order_check.specs.Known.{known_in, unknown}
-use Rattle.order_check.specs.WellFormed.{IsBase, AreBases, AreThere, AreApart, are_ranked, IsRanking, IsStuckAt, IsStuckTo, have_ranks}
+use Rattle.order_check.proofs.Below.{ℕ, zero, suc, Bool, true, false, cond, eqb, List, [], length, get_or, set, Option, Some, None, inl, inr, refl, sym, ap, subst, ◌∙◌, arith, below_more, is_some, eqb-true, and_parts, false≢true, both_ways, has, Includes, Distinct, bases_of, distinct-fewer, Includes-equal, Decides-has, Entry, classes, keys_of, AreKeyed, known_in, unknown, IsBase, AreBases, AreThere, AreApart, are_ranked, IsRanking, IsStuckAt, IsStuckTo, have_ranks}
+use Rattle.std.proofs.Common.{◌≡◌, ◌+◌, ◌<◌, ◌≤◌, ◌&&◌, ◌∷◌, ◌++◌}
+use Rattle.std.specs.Prelude.{◌↔◌}
 use Rattle.order_check.proofs.Places.{key-at, key-held, held-at, bases-at, bases-held, known-at, known-set, unknown-set}
 
 module _ (h : List Entry) (rs : List (Option ℕ)) where

@@ -1,11 +1,6 @@
 -- Lists past what was seen, at a place.
-use Rattle.std.proofs.Common.{◌≡◌, ℕ, ◌+◌, ◌<◌, Bool, true, false, cond, not, ◌&&◌, ◌||◌, eqb, List, [], ◌∷◌, ◌++◌, length, get_or, take, drop, None, refl, sym, ap, ◌∙◌, inl, inr}
-use Rattle.std.proofs.lemmas.List.{drop_more}
-use Rattle.std.proofs.lemmas.Bool.{cases_eq, ne_eqb}
-use Rattle.class_model.specs.Order.{has}
-use Rattle.mro_merge.specs.Steps.{past, first_free}
-use Rattle.class_model.specs.Class.{past_first}
-use Rattle.order_check.specs.Line.{rest, is_same, is_led}
+use Rattle.order_check.proofs.Below.{ℕ, Bool, true, false, cond, not, eqb, List, [], length, get_or, take, drop, None, refl, sym, ap, ◌∙◌, inl, inr, drop_more, cases_eq, ne_eqb, has, past, first_free, past_first, rest, is_same, is_led}
+use Rattle.std.proofs.Common.{◌≡◌, ◌+◌, ◌<◌, ◌&&◌, ◌||◌, ◌∷◌, ◌++◌}
 
 gone : (seen u : List ℕ) (k : ℕ) → has seen k ≡ true → has (past seen u) k ≡ false
 gone seen [] k s = refl

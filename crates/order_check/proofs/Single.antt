@@ -1,10 +1,6 @@
 -- Over the linearisation of one base the least order is the class before it.
-use Rattle.std.proofs.Common.{◌≡◌, ℕ, ◌<◌, ◌≤◌, List, [], ◌∷◌, length, get_or, Some, inl, refl, sym, ap, ◌∙◌, arith}
-use Rattle.std.specs.Global.{Vec}
-use Rattle.class_model.specs.Order.{least_order}
-use Rattle.class_model.proofs.OneBase.{least_order-one_base}
-use Rattle.mro_merge.specs.Merge.{AreLinesOf, IsApart}
-use Rattle.order_check.specs.Lists.{rows}
+use Rattle.order_check.proofs.Below.{ℕ, List, [], length, get_or, Some, inl, refl, sym, ap, ◌∙◌, arith, Vec, least_order, least_order-one_base, AreLinesOf, IsApart, rows}
+use Rattle.std.proofs.Common.{◌≡◌, ◌<◌, ◌≤◌, ◌∷◌}
 
 least_order-single : (c : ℕ) (bases line : List ℕ) → AreLinesOf bases (line ∷ []) → IsApart c (line ∷ []) → least_order c bases (line ∷ []) ≡ Some (c ∷ line)
 least_order-single c [] line lines apart = absurd lines

@@ -1,6 +1,6 @@
 -- Whether there is a value.
-use Rattle.std.proofs.Common.{◌≡◌, false, Option, Some, None, refl}
-use Rattle.std.specs.Prelude.{is_some}
+use Rattle.order_check.proofs.Below.{false, Option, Some, None, refl, is_some}
+use Rattle.std.proofs.Common.{◌≡◌}
 
 pub none-of : {A : Type 0} (o : Option A) → is_some o ≡ false → o ≡ None
 none-of None e = refl

@@ -1,10 +1,6 @@
 -- What is left, and the walk, a step at a time.
-use Rattle.std.proofs.Common.{◌≡◌, ℕ, zero, suc, ◌+◌, ◌-◌, ◌<◌, ◌≤◌, true, false, cond, List, ◌∷◌, length, Option, Some, None, refl, sym, ap, ◌∙◌, arith}
-use Rattle.class_model.specs.Order.{has}
-use Rattle.mro_merge.specs.Merge.{members}
-use Rattle.mro_merge.specs.Steps.{first_free, struck}
-use Rattle.order_check.specs.Found.{left_by, left_after, left, holder, up_to, walk}
-use Rattle.mro_merge.proofs.Steps.{struck-fewer}
+use Rattle.order_check.proofs.Below.{ℕ, zero, suc, true, false, cond, List, length, Option, Some, None, refl, sym, ap, ◌∙◌, arith, has, members, first_free, struck, left_by, left_after, left, holder, up_to, walk, struck-fewer}
+use Rattle.std.proofs.Common.{◌≡◌, ◌+◌, ◌-◌, ◌<◌, ◌≤◌, ◌∷◌}
 
 left-none : (n : ℕ) (ls : List (List ℕ)) → first_free ls ls ≡ None → left_after n ls ≡ ls
 unfolding left_after

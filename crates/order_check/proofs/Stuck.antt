@@ -1,17 +1,7 @@
 -- What is left of lists when their merge can't go on.
-use Rattle.std.proofs.Common.{◌≡◌, ℕ, zero, suc, ◌≤◌, Bool, true, false, cond, not, ◌||◌, eqb, List, [], ◌∷◌, length, Option, Some, None, inl, inr, refl, sym, ap, subst, ◌∙◌, arith}
-use Rattle.std.proofs.lemmas.Bool.{false≢true}
-use Rattle.class_model.specs.Order.{has, without, Includes, Subsequence}
-use Rattle.mro_merge.specs.Merge.{members, heads, IsMerge}
-use Rattle.class_model.specs.Change.{stands_past}
-use Rattle.mro_merge.specs.Steps.{first_free, struck}
-use Rattle.order_check.specs.Cycle.{BeforeIn, IsChain, IsCycle, HasMerge}
-use Rattle.order_check.specs.Found.{left_by, left_after, left, holder}
-use Rattle.class_model.proofs.Held.{Subsequence-more}
-use Rattle.class_model.proofs.Tests.{Decides-has}
-use Rattle.mro_merge.proofs.Merged.{first-some}
+use Rattle.order_check.proofs.Below.{ℕ, zero, suc, Bool, true, false, cond, not, eqb, List, [], length, Option, Some, None, inl, inr, refl, sym, ap, subst, ◌∙◌, arith, false≢true, has, without, Includes, Subsequence, members, heads, IsMerge, stands_past, first_free, struck, BeforeIn, IsChain, IsCycle, HasMerge, left_by, left_after, left, holder, Subsequence-more, Decides-has, first-some, struck-fewer}
+use Rattle.std.proofs.Common.{◌≡◌, ◌≤◌, ◌||◌, ◌∷◌}
 use Rattle.order_check.proofs.Merged.{put-first}
-use Rattle.mro_merge.proofs.Steps.{struck-fewer}
 use Rattle.order_check.proofs.Ordered.{before-kept}
 
 holds-none : (l : List ℕ) (x : ℕ) → length l ≤ 0 → Includes l x → ⊥

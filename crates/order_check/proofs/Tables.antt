@@ -1,13 +1,6 @@
 -- What is known of the linearisations, as the code holds it.
-use Rattle.std.proofs.Common.{◌≡◌, ℕ, ◌+◌, ◌<◌, Bool, true, false, cond, eqb, List, [], ◌∷◌, ◌++◌, length, get_or, set, Option, Some, None, refl, sym, ap, subst, ◌∙◌, arith, below_more}
-use Rattle.std.specs.Prelude.{option_map, option_and_then, is_some}
-use Rattle.std.specs.Global.{Vec}
-use Rattle.std.proofs.lemmas.Bool.{false≢true}
-use Rattle.std.proofs.lemmas.List.{get_or-map, map-set, length-map}
-use Rattle.class_model.specs.Class.{bases_of}
-use Rattle.order_check.specs.declared.hierarchy.Entry.{Entry}
-use Rattle.order_check.specs.Hierarchy.{classes, keys_of, orders, AreKeyed}
-use Rattle.order_check.specs.Known.{known_in, over, AreKnown, IsClosedAt, IsClosedTo, AllNone, unknown}
+use Rattle.order_check.proofs.Below.{ℕ, Bool, true, false, cond, eqb, List, [], length, get_or, set, Option, Some, None, refl, sym, ap, subst, ◌∙◌, arith, below_more, option_map, option_and_then, is_some, Vec, false≢true, get_or-map, map-set, length-map, bases_of, Entry, classes, keys_of, orders, AreKeyed, known_in, over, AreKnown, IsClosedAt, IsClosedTo, AllNone, unknown}
+use Rattle.std.proofs.Common.{◌≡◌, ◌+◌, ◌<◌, ◌∷◌, ◌++◌}
 use Rattle.order_check.proofs.Places.{key-at, bases-at, known-at, unknown-set}
 use Rattle.order_check.proofs.Knowing.{known-more}
 

@@ -1,23 +1,6 @@
 -- What is told of a class, where all orders are known.
-use Rattle.std.proofs.Common.{◌≡◌, ℕ, Bool, true, false, cond, eqb, List, [], ◌∷◌, length, map, Option, Some, None, ◌⊎◌, inl, inr, refl, sym, ap, ◌∙◌}
-use Rattle.std.specs.Prelude.{is_none, option_map, option_and_then}
-use Rattle.std.proofs.lemmas.Bool.{eqb-true, eqb-false}
-use Rattle.std.proofs.lemmas.List.{length-map}
-use Rattle.class_model.specs.Order.{least_order, all_some, Includes}
-use Rattle.class_model.specs.Class.{bases_of}
-use Rattle.class_model.proofs.Arranged.{least_order-none}
-use Rattle.class_model.proofs.Depth.{linear-known}
-use Rattle.class_model.proofs.Linear.{all_some-has}
-use Rattle.class_model.proofs.Rule.{all_some-map, lin-rule, lin-held}
-use Rattle.mro_merge.specs.Merge.{IsApart}
-use Rattle.order_check.specs.declared.hierarchy.Entry.{Entry}
-use Rattle.order_check.specs.declared.report.Pair.{Pair}
-use Rattle.order_check.specs.Cycle.{HasNoCycle, IsAnswer}
-use Rattle.order_check.specs.Found.{cycle_of}
-use Rattle.order_check.specs.Hierarchy.{classes, keys_of, order_in, all_orders}
-use Rattle.order_check.specs.Known.{known_in, AreKnown}
-use Rattle.order_check.specs.Orders.{AreIn, lists_of}
-use Rattle.order_check.specs.Report.{first_without, found_pairs, IsCycleLine}
+use Rattle.order_check.proofs.Below.{ℕ, Bool, true, false, cond, eqb, List, [], length, map, Option, Some, None, inl, inr, refl, sym, ap, ◌∙◌, is_none, option_map, option_and_then, eqb-true, eqb-false, length-map, least_order, all_some, Includes, bases_of, least_order-none, linear-known, all_some-has, all_some-map, lin-rule, lin-held, IsApart, Entry, Pair, HasNoCycle, IsAnswer, cycle_of, classes, keys_of, order_in, all_orders, known_in, AreKnown, AreIn, lists_of, first_without, found_pairs, IsCycleLine}
+use Rattle.std.proofs.Common.{◌≡◌, ◌∷◌, ◌⊎◌}
 use Rattle.order_check.proofs.ClassFact.{ordered_or_cyclic}
 use Rattle.order_check.proofs.Fact.{cycle_of-answer}
 use Rattle.order_check.proofs.Places.{bases-held}

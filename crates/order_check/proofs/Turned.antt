@@ -1,10 +1,6 @@
 -- A cycle that is turned is a cycle.
-use Rattle.std.proofs.Common.{◌≡◌, ℕ, ◌≤◌, Bool, true, false, cond, eqb, List, [], ◌∷◌, ◌++◌, inl, inr, refl, sym, subst, append_assoc, append-nil, ltb, arith}
-use Rattle.std.proofs.lemmas.Bool.{eqb-true, eqb-false, ltb-true, ltb-false}
-use Rattle.class_model.specs.Order.{Includes, Distinct}
-use Rattle.order_check.specs.Cycle.{BeforeIn, IsChain, IsCycle, BeginsWithLeast}
-use Rattle.order_check.specs.Found.{least_from, turned_from, turned}
-use Rattle.class_model.proofs.Held.{Includes-sides}
+use Rattle.order_check.proofs.Below.{ℕ, Bool, true, false, cond, eqb, List, [], inl, inr, refl, sym, subst, append_assoc, append-nil, ltb, arith, eqb-true, eqb-false, ltb-true, ltb-false, Includes, Distinct, BeforeIn, IsChain, IsCycle, BeginsWithLeast, least_from, turned_from, turned, Includes-sides}
+use Rattle.std.proofs.Common.{◌≡◌, ◌≤◌, ◌∷◌, ◌++◌}
 
 chain-join : (ls : List (List ℕ)) (x : ℕ) (ws : List ℕ) (y z : ℕ) → IsChain ls x ws y → BeforeIn ls y z → IsChain ls x (ws ++ y ∷ []) z
 chain-join ls x [] y z c b = (c, b)

@@ -1,13 +1,6 @@
 -- The walk from holder to holder comes back, and gives a cycle.
-use Rattle.std.proofs.Common.{◌≡◌, ℕ, zero, suc, ◌+◌, ◌≤◌, Bool, true, false, cond, eqb, List, [], ◌∷◌, length, None, inl, inr, refl, sym, subst, arith}
-use Rattle.std.proofs.lemmas.Bool.{eqb-true, eqb-false, both_ways}
-use Rattle.class_model.specs.Order.{has, Includes, Distinct}
-use Rattle.mro_merge.specs.Merge.{heads}
-use Rattle.mro_merge.specs.Steps.{first_free}
-use Rattle.order_check.specs.Cycle.{BeforeIn, IsChain, IsCycle}
-use Rattle.order_check.specs.Found.{holder, up_to, walk}
-use Rattle.class_model.proofs.Held.{Includes-equal, distinct-fewer}
-use Rattle.class_model.proofs.Tests.{Decides-has}
+use Rattle.order_check.proofs.Below.{ℕ, zero, suc, Bool, true, false, cond, eqb, List, [], length, None, inl, inr, refl, sym, subst, arith, eqb-true, eqb-false, both_ways, has, Includes, Distinct, heads, first_free, BeforeIn, IsChain, IsCycle, holder, up_to, walk, Includes-equal, distinct-fewer, Decides-has}
+use Rattle.std.proofs.Common.{◌≡◌, ◌+◌, ◌≤◌, ◌∷◌}
 use Rattle.order_check.proofs.Stuck.{stuck-heads, holder-before}
 
 -- x before the first, and each before the next

@@ -1,13 +1,7 @@
 -- What the tests of well-formed classes decide.
-use Rattle.std.proofs.Common.{◌≡◌, ℕ, suc, ◌<◌, ◌≤◌, Bool, true, false, cond, ◌&&◌, eqb, List, [], ◌∷◌, length, get_or, Some, Result, Ok, Err, inl, inr, refl, sym, ap, subst, ◌∙◌, arith}
-use Rattle.std.specs.Prelude.{◌↔◌, option_map, IfOk}
-use Rattle.std.proofs.lemmas.Bool.{and_parts}
-use Rattle.class_model.specs.Order.{has, is_within, Includes}
-use Rattle.class_model.specs.Class.{Class, class_at, bases_of}
-use Rattle.class_model.proofs.Tests.{Decides-has}
-use Rattle.order_check.specs.declared.hierarchy.Entry.{Entry}
-use Rattle.order_check.specs.Hierarchy.{class_of, classes, keys_of, AreKeyed}
-use Rattle.order_check.specs.WellFormed.{AreThere, AreApart, IsWellFormed, roots, all_within}
+use Rattle.order_check.proofs.Below.{ℕ, suc, Bool, true, false, cond, eqb, List, [], length, get_or, Some, Ok, inl, inr, refl, sym, ap, subst, ◌∙◌, arith, option_map, IfOk, and_parts, has, is_within, Includes, Class, class_at, bases_of, Decides-has, Entry, class_of, classes, keys_of, AreKeyed, AreThere, AreApart, IsWellFormed, roots, all_within}
+use Rattle.std.proofs.Common.{◌≡◌, ◌<◌, ◌≤◌, ◌&&◌, ◌∷◌, Result, Err}
+use Rattle.std.specs.Prelude.{◌↔◌}
 use Rattle.order_check.proofs.Places.{key-held, bases-at}
 
 pub not-has : (keys : List ℕ) (c : ℕ) → (Includes keys c → ⊥) → has keys c ≡ false

@@ -1,7 +1,6 @@
 -- Cycles of the constraints that lists put on their members' order.
-use Rattle.std.specs.Prelude.{◌≡◌, ◌↔◌, ℕ, ◌≤◌, Bool, true, false, ◌&&◌, ◌||◌, ◌⊎◌, eqb, List, [], ◌∷◌, Option, Some, None}
-use Rattle.class_model.specs.Order.{has, Includes, Distinct}
-use Rattle.mro_merge.specs.Merge.{IsMerge}
+use Rattle.order_check.specs.Below.{ℕ, Bool, true, false, eqb, List, [], Option, Some, None, has, Includes, Distinct, IsMerge}
+use Rattle.std.specs.Prelude.{◌≡◌, ◌↔◌, ◌≤◌, ◌&&◌, ◌||◌, ◌⊎◌, ◌∷◌}
 
 -- x stands before y at two places of the list
 abbrev pub Before : List ℕ → ℕ → ℕ → Type 0

@@ -1,6 +1,6 @@
 -- What the entries of a hierarchy are tested for. No public contract names these.
-use Rattle.std.specs.Prelude.{◌≡◌, ℕ, ◌<◌, List, take, get_or, Some, slice_get}
-use Rattle.class_model.specs.Order.{Includes}
+use Rattle.order_check.specs.Below.{ℕ, List, take, get_or, Some, slice_get, Includes}
+use Rattle.std.specs.Prelude.{◌≡◌, ◌<◌}
 use Rattle.order_check.specs.declared.hierarchy.Entry.{Entry}
 use Rattle.order_check.specs.Hierarchy.{keys_of}
 

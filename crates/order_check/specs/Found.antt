@@ -1,8 +1,6 @@
 -- The cycle that is given where lists have no merge.
-use Rattle.std.specs.Prelude.{ℕ, zero, suc, cond, eqb, ltb, List, [], ◌∷◌, ◌++◌, length, Option, Some, None}
-use Rattle.class_model.specs.Order.{has}
-use Rattle.mro_merge.specs.Merge.{members, heads}
-use Rattle.mro_merge.specs.Steps.{first_free, struck}
+use Rattle.order_check.specs.Below.{ℕ, zero, suc, cond, eqb, ltb, List, [], length, Option, Some, None, has, members, heads, first_free, struck}
+use Rattle.std.specs.Prelude.{◌∷◌, ◌++◌}
 
 abbrev pub left_by : (ℕ → List (List ℕ)) → List (List ℕ) → Option ℕ → List (List ℕ)
 left_by go ls None = ls

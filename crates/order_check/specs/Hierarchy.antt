@@ -1,8 +1,6 @@
 -- The classes of a hierarchy, and their linearisations.
-use Rattle.std.specs.Prelude.{◌≡◌, ℕ, false, cond, eqb, List, [], ◌∷◌, map, take, Option, Some, option_map, slice_get, string_bytes}
-use Rattle.std.specs.Global.{Vec}
-use Rattle.class_model.specs.Order.{Includes, Distinct}
-use Rattle.class_model.specs.Class.{Class, Classes, lin}
+use Rattle.order_check.specs.Below.{ℕ, false, cond, eqb, List, [], map, take, Option, Some, option_map, slice_get, string_bytes, Vec, Includes, Distinct, Class, Classes, lin}
+use Rattle.std.specs.Prelude.{◌≡◌, ◌∷◌}
 use Rattle.order_check.specs.declared.hierarchy.Entry.{Entry}
 
 -- an entry as a class. Of a class its number and its bases alone make its linearisation

@@ -1,8 +1,6 @@
 -- What is known of the linearisations so far. No public contract names these.
-use Rattle.std.specs.Prelude.{◌≡◌, ℕ, suc, ◌<◌, cond, eqb, List, [], ◌∷◌, map, length, get_or, Option, Some, None, option_and_then, IfSome}
-use Rattle.std.specs.Global.{Vec}
-use Rattle.class_model.specs.Order.{least_order, all_some, Includes}
-use Rattle.class_model.specs.Class.{bases_of}
+use Rattle.order_check.specs.Below.{ℕ, suc, cond, eqb, List, [], map, length, get_or, Option, Some, None, option_and_then, IfSome, Vec, least_order, all_some, Includes, bases_of}
+use Rattle.std.specs.Prelude.{◌≡◌, ◌<◌, ◌∷◌}
 use Rattle.order_check.specs.declared.hierarchy.Entry.{Entry}
 use Rattle.order_check.specs.declared.known.Lines.{Lines}
 use Rattle.order_check.specs.declared.known.Lines.TheVariants.{All, Without}

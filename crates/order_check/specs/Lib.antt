@@ -1,3 +1,4 @@
+pub mod Below
 pub mod Lists
 pub mod Cycle
 pub mod Found
@@ -9,3 +10,6 @@ pub mod Report
 pub mod Known
 pub mod WellFormed
 pub mod Told
+pub mod ClassOrders
+pub mod HierarchyText
+pub mod ReportText

@@ -1,7 +1,6 @@
 -- A line tested a member at a time: no merge is made for it.
-use Rattle.std.specs.Prelude.{ℕ, Bool, false, cond, ◌&&◌, eqb, List, [], ◌∷◌, ◌++◌, map, Option, Some, None}
-use Rattle.class_model.specs.Change.{stands_past}
-use Rattle.mro_merge.specs.Steps.{past, first_free, are_empty}
+use Rattle.order_check.specs.Below.{ℕ, Bool, false, cond, eqb, List, [], map, Option, Some, None, stands_past, past, first_free, are_empty}
+use Rattle.std.specs.Prelude.{◌&&◌, ◌∷◌, ◌++◌}
 
 -- the lists without what was seen
 abbrev pub rest : List (List ℕ) → List ℕ → List (List ℕ)

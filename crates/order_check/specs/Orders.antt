@@ -1,7 +1,6 @@
 -- The orders of a class, and what they have to do with cycles.
-use Rattle.std.specs.Prelude.{◌≡◌, ◌↔◌, ℕ, List, [], ◌∷◌, ◌++◌}
-use Rattle.class_model.specs.Order.{Includes, IsOrder}
-use Rattle.mro_merge.specs.Merge.{IsApart}
+use Rattle.order_check.specs.Below.{ℕ, List, [], Includes, IsOrder, IsApart}
+use Rattle.std.specs.Prelude.{◌≡◌, ◌↔◌, ◌∷◌, ◌++◌}
 use Rattle.order_check.specs.Cycle.{HasNoCycle}
 
 -- each base is in one of the lines

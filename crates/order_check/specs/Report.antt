@@ -1,5 +1,6 @@
 -- What a report tells of a hierarchy, and when it is right.
-use Rattle.std.specs.Prelude.{◌≡◌, ℕ, suc, ◌<◌, cond, List, [], ◌∷◌, map, Option, Some, None, is_none, slice_get}
+use Rattle.order_check.specs.Below.{ℕ, suc, cond, List, [], map, Option, Some, None, is_none, slice_get}
+use Rattle.std.specs.Prelude.{◌≡◌, ◌<◌, ◌∷◌}
 use Rattle.order_check.specs.declared.hierarchy.Entry.{Entry}
 use Rattle.order_check.specs.declared.report.Pair.{Pair}
 use Rattle.order_check.specs.declared.report.Line.{Line}

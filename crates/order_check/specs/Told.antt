@@ -1,7 +1,6 @@
 -- The lists of a class, as a report's lines tell them, and how a line is tested. No public contract names these.
-use Rattle.std.specs.Prelude.{◌≡◌, ℕ, ◌<◌, Bool, true, false, ◌&&◌, eqb, leb, List, [], ◌∷◌, ◌++◌, map, get_or, Option, Some, None, option_map}
-use Rattle.class_model.specs.Order.{is_distinct, Includes}
-use Rattle.mro_merge.specs.Steps.{merged}
+use Rattle.order_check.specs.Below.{ℕ, Bool, true, false, eqb, leb, List, [], map, get_or, Option, Some, None, option_map, is_distinct, Includes, merged}
+use Rattle.std.specs.Prelude.{◌≡◌, ◌<◌, ◌&&◌, ◌∷◌, ◌++◌}
 use Rattle.order_check.specs.declared.hierarchy.Entry.{Entry}
 use Rattle.order_check.specs.declared.report.Pair.{Pair}
 use Rattle.order_check.specs.declared.report.Line.{Line}

@@ -1,7 +1,6 @@
 -- What the classes of a hierarchy keep to, and how it is tested.
-use Rattle.std.specs.Prelude.{◌≡◌, ℕ, suc, ◌<◌, ◌≤◌, ◌==◌, Bool, true, false, cond, ◌&&◌, List, [], ◌∷◌, ◌++◌, length, get_or, Option, Some, None, is_some}
-use Rattle.class_model.specs.Order.{is_within, Includes}
-use Rattle.class_model.specs.Class.{bases_of}
+use Rattle.order_check.specs.Below.{ℕ, suc, Bool, true, false, cond, List, [], length, get_or, Option, Some, None, is_some, is_within, Includes, bases_of}
+use Rattle.std.specs.Prelude.{◌≡◌, ◌<◌, ◌≤◌, ◌==◌, ◌&&◌, ◌∷◌, ◌++◌}
 use Rattle.order_check.specs.declared.hierarchy.Entry.{Entry}
 use Rattle.order_check.specs.Hierarchy.{classes, keys_of, AreKeyed}
 use Rattle.order_check.specs.Known.{known_in}

@@ -1,7 +1,7 @@
 //! Whether a report is right, tested with no merge and no memory.
 
-ghost use Rattle.std.specs.Prelude.{◌≡◌, ◌↔◌, ◌+◌, ◌<◌, true, Some, length, IsOk, IfErr, IfNone, IfSome, get_or};
-ghost use Rattle.class_model.specs.Class.{bases_of};
+ghost use Rattle.order_check.specs.Below.{true, Some, length, IsOk, IfErr, IfNone, IfSome, get_or, bases_of};
+ghost use Rattle.std.specs.Prelude.{◌≡◌, ◌↔◌, ◌+◌, ◌<◌};
 ghost use Rattle.order_check.specs.Hierarchy.{AreKeyed, IsInOrder, classes, keys_of, order_in};
 ghost use Rattle.order_check.specs.Report.{first_without, IsCycleLine, IsLine, IsRightAt, IsReport, IsFirstWrong};
 ghost use Rattle.order_check.specs.Told.{told_in, orders_told, lists_told, merged_order, AreToldOf, AreToldTo};

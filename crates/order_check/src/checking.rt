@@ -1,7 +1,7 @@
 //! The report of a hierarchy.
 
-ghost use Rattle.std.specs.Prelude.{◌≡◌, ◌≤◌, Some, length, IfOk};
-ghost use Rattle.class_model.specs.Class.{bases_of};
+ghost use Rattle.order_check.specs.Below.{Some, length, IfOk, bases_of};
+ghost use Rattle.std.specs.Prelude.{◌≡◌, ◌≤◌};
 ghost use Rattle.order_check.specs.Lists.{rows};
 ghost use Rattle.order_check.specs.Found.{cycle_of};
 ghost use Rattle.order_check.specs.Orders.{lists_of};

@@ -1,6 +1,7 @@
 //! The cycle that lists have where they have no merge.
 
-ghost use Rattle.std.specs.Prelude.{◌≡◌, IfOk, option_map};
+ghost use Rattle.order_check.specs.Below.{IfOk, option_map};
+ghost use Rattle.std.specs.Prelude.{◌≡◌};
 ghost use Rattle.order_check.specs.Lists.{rows};
 ghost use Rattle.order_check.specs.Cycle.{is_before, IsAnswer, IsMergedOrCyclic};
 ghost use Rattle.order_check.specs.Orders.{IsOrderedOrCyclic};

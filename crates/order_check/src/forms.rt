@@ -1,7 +1,7 @@
 //! What the entries of a hierarchy keep to.
 
-ghost use Rattle.std.specs.Prelude.{◌≡◌, ◌↔◌, true, length};
-ghost use Rattle.class_model.specs.Order.{has, is_distinct};
+ghost use Rattle.order_check.specs.Below.{true, length, has, is_distinct};
+ghost use Rattle.std.specs.Prelude.{◌≡◌, ◌↔◌};
 ghost use Rattle.order_check.specs.Hierarchy.{AreKeyed, IsInOrder, keys_of};
 ghost use Rattle.order_check.specs.Forms.{AreBefore, AreEarlierTo, AreAscending};
 

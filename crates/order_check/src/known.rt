@@ -1,6 +1,7 @@
 //! What is known of the orders of a hierarchy's classes.
 
-ghost use Rattle.std.specs.Prelude.{◌≡◌, Some, None, length, IfOk, IfSome, IfNone};
+ghost use Rattle.order_check.specs.Below.{Some, None, length, IfOk, IfSome, IfNone};
+ghost use Rattle.std.specs.Prelude.{◌≡◌};
 ghost use Rattle.order_check.specs.Hierarchy.{AreKeyed, orders};
 ghost use Rattle.order_check.specs.Known.{known_in, AreLinesFor};
 

@@ -1,13 +1,11 @@
 //! The least order of a class, over those of its bases.
 
-ghost use Rattle.std.specs.Prelude.{◌≡◌, ◌∷◌, IfOk, option_map};
-ghost use Rattle.class_model.specs.Order.{least_order};
-ghost use Rattle.mro_merge.specs.Lists.{numbers, rows as class_rows};
-ghost use Rattle.mro_merge.specs.Merge.{AreLinesOf, IsApart};
+ghost use Rattle.order_check.specs.Below.{IfOk, option_map, least_order, numbers, rows as class_rows, AreLinesOf, IsApart};
+ghost use Rattle.std.specs.Prelude.{◌≡◌, ◌∷◌};
 ghost use Rattle.order_check.specs.Lists.{rows};
 
-use mro_merge::MroFault;
-use mro_merge::laws::resolve_mro;
+use class_table::mro_merge::MroFault;
+use class_table::mro_merge::laws::resolve_mro;
 use py_node::{OutOfMemory, PyTypeRef};
 use std::alloc::Global;
 

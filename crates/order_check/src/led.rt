@@ -1,8 +1,7 @@
 //! Whether a line is the order of a class, tested a member at a time: no merge is made for it, and it takes no memory.
 
-ghost use Rattle.std.specs.Prelude.{◌≡◌, ◌↔◌, [], true, Some};
-ghost use Rattle.class_model.specs.Change.{stands_past};
-ghost use Rattle.mro_merge.specs.Steps.{past, first_free, are_empty, merged};
+ghost use Rattle.order_check.specs.Below.{[], true, Some, stands_past, past, first_free, are_empty, merged};
+ghost use Rattle.std.specs.Prelude.{◌≡◌, ◌↔◌};
 ghost use Rattle.order_check.specs.Hierarchy.{AreKeyed};
 ghost use Rattle.order_check.specs.Line.{rest, free_first, is_led};
 ghost use Rattle.order_check.specs.Told.{told_in, lists_told};

@@ -1,10 +1,7 @@
 //! What is left of lists when their merge can't go on.
 
-ghost use Rattle.std.specs.Prelude.{◌≡◌, IfOk};
-ghost use Rattle.class_model.specs.Order.{has, without};
-ghost use Rattle.class_model.specs.Class.{past_first};
-ghost use Rattle.class_model.specs.Change.{stands_past};
-ghost use Rattle.mro_merge.specs.Steps.{first_free, struck};
+ghost use Rattle.order_check.specs.Below.{IfOk, has, without, past_first, stands_past, first_free, struck};
+ghost use Rattle.std.specs.Prelude.{◌≡◌};
 ghost use Rattle.order_check.specs.Lists.{rows};
 ghost use Rattle.order_check.specs.Found.{left};
 

@@ -3,7 +3,8 @@
 //! A class without bases is at level 0, another one a level above the highest of its bases. So the orders of a level
 //! need those of the levels below it alone.
 
-ghost use Rattle.std.specs.Prelude.{◌≡◌, ◌+◌, ◌<◌, All, length, IfOk, OnOk};
+ghost use Rattle.order_check.specs.Below.{All, length, IfOk, OnOk};
+ghost use Rattle.std.specs.Prelude.{◌≡◌, ◌+◌, ◌<◌};
 ghost use Rattle.order_check.specs.Hierarchy.{AreKeyed, orders, all_orders};
 ghost use Rattle.order_check.specs.Known.{AreKnown, CanFind, IsFound};
 

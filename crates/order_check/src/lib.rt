@@ -1,11 +1,15 @@
-//! Orders of classes, and the cycles that stand against them.
+//! Hierarchies of classes by themselves.
+//!
+//! At the root: orders of classes, and the cycles that stand against them.
 #![tactic(auto)]
 
 pub mod accepting;
 pub mod checking;
+pub mod class_orders;
 pub mod cycles;
 mod forms;
 pub mod hierarchy;
+pub mod hierarchy_text;
 mod known;
 mod least;
 mod led;
@@ -17,6 +21,7 @@ mod pairs;
 mod place;
 mod ranks;
 pub mod report;
+pub mod report_text;
 mod told;
 mod walk;
 pub mod wellformed;

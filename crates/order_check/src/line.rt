@@ -1,9 +1,7 @@
 //! What is left of a list when some of its members are gone.
 
 ghost use Rattle.std.specs.Prelude.{◌≡◌};
-ghost use Rattle.class_model.specs.Order.{has};
-ghost use Rattle.class_model.specs.Class.{past_first};
-ghost use Rattle.mro_merge.specs.Steps.{past};
+ghost use Rattle.order_check.specs.Below.{has, past_first, past};
 ghost use Rattle.order_check.specs.Line.{first_of};
 
 use crate::left::has;

@@ -1,7 +1,7 @@
 //! The linearisations of all classes of a hierarchy.
 
-ghost use Rattle.std.specs.Prelude.{◌≡◌, ◌<◌, ◌≤◌, true, false, Some, length, get_or, IfOk, OnOk, option_map};
-ghost use Rattle.class_model.specs.Class.{bases_of};
+ghost use Rattle.order_check.specs.Below.{true, false, Some, length, get_or, IfOk, OnOk, option_map, bases_of};
+ghost use Rattle.std.specs.Prelude.{◌≡◌, ◌<◌, ◌≤◌};
 ghost use Rattle.order_check.specs.Hierarchy.{AreKeyed, classes, keys_of, orders, all_orders};
 ghost use Rattle.order_check.specs.Known.{known_in, over, AreKnown, IsClosedAt, IsClosedTo, AllNone, unknown};
 

@@ -1,7 +1,7 @@
 //! Whether pairs are those of a cycle, tested with no memory.
 
 ghost use Rattle.std.specs.Prelude.{◌≡◌};
-ghost use Rattle.class_model.specs.Order.{has, is_distinct};
+ghost use Rattle.order_check.specs.Below.{has, is_distinct};
 ghost use Rattle.order_check.specs.Hierarchy.{AreKeyed};
 ghost use Rattle.order_check.specs.Told.{told_in, lists_told, firsts, is_least, is_told, are_told, tells_cycle};
 

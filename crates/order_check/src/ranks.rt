@@ -1,6 +1,7 @@
 //! Ranks of classes: a class has a greater one than its bases. All have one exactly where no class derives from itself.
 
-ghost use Rattle.std.specs.Prelude.{◌≡◌, ◌↔◌, ◌+◌, ◌<◌, ◌≤◌, true, false, length, get_or, IfOk};
+ghost use Rattle.order_check.specs.Below.{true, false, length, get_or, IfOk};
+ghost use Rattle.std.specs.Prelude.{◌≡◌, ◌↔◌, ◌+◌, ◌<◌, ◌≤◌};
 ghost use Rattle.order_check.specs.Hierarchy.{AreKeyed, keys_of};
 ghost use Rattle.order_check.specs.Known.{known_in, unknown};
 ghost use Rattle.order_check.specs.WellFormed.{are_ranked, have_ranks, IsRanking, IsStuckAt, IsStuckTo, AreThere, AreApart};

@@ -1,6 +1,7 @@
 //! The lists of a class, as the earlier lines of a report tell them.
 
-ghost use Rattle.std.specs.Prelude.{◌≡◌, Some, None, map, get_or, IfSome, IfNone};
+ghost use Rattle.order_check.specs.Below.{Some, None, map, get_or, IfSome, IfNone};
+ghost use Rattle.std.specs.Prelude.{◌≡◌};
 ghost use Rattle.order_check.specs.Cycle.{is_before_in};
 ghost use Rattle.order_check.specs.Hierarchy.{AreKeyed};
 ghost use Rattle.order_check.specs.Report.{list_with, first_without};

@@ -1,6 +1,7 @@
 //! The walk from a member to the head that holds it back.
 
-ghost use Rattle.std.specs.Prelude.{◌≡◌, [], length, IfOk};
+ghost use Rattle.order_check.specs.Below.{[], length, IfOk};
+ghost use Rattle.std.specs.Prelude.{◌≡◌};
 ghost use Rattle.order_check.specs.Lists.{rows};
 ghost use Rattle.order_check.specs.Found.{holder, up_to, walk};
 

@@ -1,7 +1,7 @@
 //! Whether the classes of a hierarchy are well formed.
 
-ghost use Rattle.std.specs.Prelude.{◌≡◌, ◌↔◌, ◌≤◌, true, IfOk};
-ghost use Rattle.class_model.specs.Order.{has, is_within};
+ghost use Rattle.order_check.specs.Below.{true, IfOk, has, is_within};
+ghost use Rattle.std.specs.Prelude.{◌≡◌, ◌↔◌, ◌≤◌};
 ghost use Rattle.order_check.specs.Hierarchy.{AreKeyed, keys_of};
 ghost use Rattle.order_check.specs.WellFormed.{all_within, roots, AreThere, IsRooted, IsWellFormed};
 

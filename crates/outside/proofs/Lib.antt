@@ -1,3 +1,5 @@
+pub mod Lemmas
+pub mod Below
 pub mod Numerals
 pub mod Pieces
 pub mod SoFar

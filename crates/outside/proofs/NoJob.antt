@@ -1,6 +1,6 @@
 -- Words of another number ask for nothing.
-use Rattle.std.proofs.Common.{◌≡◌, List, [], ◌∷◌, length, None, refl}
-use Rattle.outside.specs.Words.{Text, job_in}
+use Rattle.outside.proofs.Below.{List, [], length, refl, Text, job_in}
+use Rattle.std.proofs.Common.{◌≡◌, ◌∷◌, None}
 
 pub no_job : (words : List Text) → ¬ (length words ≡ 1) → ¬ (length words ≡ 2) → ¬ (length words ≡ 3) → None ≡ job_in words
 no_job [] one two three = refl

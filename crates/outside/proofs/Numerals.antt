@@ -1,13 +1,7 @@
 -- A numeral whose number isn't read as 64 bits is beyond the range.
-use Rattle.std.proofs.Common.{rules, arith, ◌≡◌, ℕ, ◌<◌, ◌^◌, true, false, List, [], ◌∷◌, length, refl, sym, ap, ◌∙◌}
-use Rattle.std.proofs.lemmas.Bool.{false_from_ne_true}
-use Rattle.std.proofs.lemmas.Grind.{common_steps}
-use Rattle.std.proofs.lemmas.Str.Parse.{IsNumeralModel, numerals_by_value, parse_gives}
-use Rattle.std.specs.Prelude.{Result, Ok, Err, None, Some, ◌&&◌, if◌then◌else◌}
-use Rattle.std.specs.Char.{is_ascii_digit}
-use Rattle.std.specs.List.{list_all}
-use Rattle.std.specs.Str.Parse.{digits_value, ParsesUnsigned}
-use Rattle.outside.specs.Words.{is_numeral, is_in_range, number_written}
+use Rattle.outside.proofs.Below.{rules, arith, ℕ, true, false, List, [], length, refl, sym, ap, ◌∙◌, false_from_ne_true, common_steps, IsNumeralModel, numerals_by_value, parse_gives, Result, Ok, Err, None, is_ascii_digit, list_all, digits_value, ParsesUnsigned, is_numeral, is_in_range, number_written}
+use Rattle.std.proofs.Common.{◌≡◌, ◌<◌, ◌^◌, ◌∷◌}
+use Rattle.std.specs.Prelude.{Some, ◌&&◌, if◌then◌else◌}
 
 own : IsNumeralModel (λ ds. list_all is_ascii_digit ds ≡ true) (digits_value 10)
 own = numerals_by_value _ (search rules)

@@ -1,7 +1,6 @@
 -- Pieces of a list, one after another.
-use Rattle.std.proofs.Common.{◌≡◌, ℕ, ◌+◌, ◌-◌, List, ◌++◌, length, take, drop, refl, append_assoc}
-use Rattle.std.proofs.Math.Seq.{take-add}
-use Rattle.std.proofs.lemmas.List.{take_rest}
+use Rattle.outside.proofs.Below.{ℕ, List, length, take, drop, refl, append_assoc, take-add, take_rest}
+use Rattle.std.proofs.Common.{◌≡◌, ◌+◌, ◌-◌, ◌++◌}
 
 -- a front of n more is the front, and then n of the others
 pub taken_more : (old bytes : List ℕ) (at n : ℕ) → (old ++ take at bytes) ++ take n (take (length bytes - at) (drop at bytes)) ≡ old ++ take (at + n) bytes

@@ -1,9 +1,6 @@
 -- What has been read of what a source told, over one read and at the end.
-use Rattle.std.proofs.Common.{◌≡◌, ℕ, ◌+◌, ◌≤◌, List, [], ◌++◌, length, take, drop, Some, refl, sym, ap, ◌∙◌, append_assoc, arith, length-append}
-use Rattle.std.proofs.lemmas.List.{take-append-drop, take_all}
-use Rattle.std.proofs.Math.Seq.{drop-append-add}
-use Rattle.std.specs.Prelude.{Option}
-use Rattle.std.specs.Option.{ForSome}
+use Rattle.outside.proofs.Below.{ℕ, List, [], length, take, drop, Some, refl, sym, ap, ◌∙◌, append_assoc, arith, length-append, take-append-drop, take_all, drop-append-add, Option, ForSome}
+use Rattle.std.proofs.Common.{◌≡◌, ◌+◌, ◌≤◌, ◌++◌}
 
 -- where the source told all of its bytes, these are read and the rest is left
 pub record SoFar (told left : Option (List ℕ)) (read : List ℕ) : Type 0 where

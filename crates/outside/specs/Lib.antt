@@ -1,3 +1,4 @@
+pub mod Below
 pub mod Count
 pub mod Memory
 pub mod Plan

@@ -1,5 +1,6 @@
 -- What callers see of the sources and sinks in memory.
-use Rattle.std.specs.Prelude.{ℕ, ◌-◌, List, drop, vec_len, vec_capacity}
+use Rattle.outside.specs.Below.{ℕ, List, drop, vec_len, vec_capacity}
+use Rattle.std.specs.Prelude.{◌-◌}
 use Rattle.outside.specs.declared.faults.Plan.{Plan}
 use Rattle.outside.specs.declared.memory.MemorySource.{MemorySource}
 use Rattle.outside.specs.declared.memory.QuietSource.{QuietSource}

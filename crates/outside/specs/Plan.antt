@@ -1,6 +1,6 @@
 -- When a source or a sink in memory is to fail.
-use Rattle.std.specs.Prelude.{◌≡◌, ◌==◌, ◌+◌, ◌-◌, ◌^◌, min, Bool}
-use Rattle.std.specs.List.{list_any}
+use Rattle.outside.specs.Below.{min, Bool, list_any}
+use Rattle.std.specs.Prelude.{◌≡◌, ◌==◌, ◌+◌, ◌-◌, ◌^◌}
 use Rattle.outside.specs.declared.faults.Plan.{Plan}
 
 -- whether the call that comes next is one that is to fail

@@ -1,8 +1,6 @@
 -- The words that the program is called with.
-use Rattle.std.specs.Prelude.{◌==◌, ℕ, nat_le, Bool, false, not, ◌&&◌, ◌||◌, List, [], ◌∷◌, Option, None, Some, option_map, codes, bytes_eq, if◌then◌else◌}
-use Rattle.std.specs.Char.{is_ascii_digit}
-use Rattle.std.specs.List.{list_all}
-use Rattle.std.specs.Str.Parse.{digits_value}
+use Rattle.outside.specs.Below.{ℕ, nat_le, Bool, false, not, List, [], Option, None, Some, option_map, codes, bytes_eq, is_ascii_digit, list_all, digits_value}
+use Rattle.std.specs.Prelude.{◌==◌, ◌&&◌, ◌||◌, ◌∷◌, if◌then◌else◌}
 use Rattle.outside.specs.declared.words.Generation.{Generation}
 use Rattle.outside.specs.declared.words.Pace.TheVariants.{Single, Parallel}
 use Rattle.outside.specs.declared.words.Question.{Question}

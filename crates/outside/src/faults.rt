@@ -1,8 +1,7 @@
 //! A count of faults, and a plan of the calls that are to fail.
 
-ghost use Rattle.std.specs.Prelude.{◌≡◌, ◌==◌, ◌+◌, ◌-◌, ◌^◌, ◌≤◌, min, false};
-ghost use Rattle.std.specs.Bool.{OnTrue};
-ghost use Rattle.std.specs.List.{list_any};
+ghost use Rattle.outside.specs.Below.{min, false, OnTrue, list_any};
+ghost use Rattle.std.specs.Prelude.{◌≡◌, ◌==◌, ◌+◌, ◌-◌, ◌^◌, ◌≤◌};
 ghost use Rattle.outside.specs.Count.{Rose};
 
 /// One fault more; the count stays at its last value.

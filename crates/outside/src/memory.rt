@@ -1,8 +1,8 @@
 //! Sources and sinks in memory, for tests: the first two fail at the calls that they are told, and move at
 //! most a chunk of bytes in a call; the other two never fail.
 
-ghost use Rattle.std.specs.Prelude.{◌≡◌, ◌+◌, ◌-◌, ◌<◌, ◌≤◌, ◌⊎◌, min, [], ◌++◌, length, take, drop, Some, vec_len, vec_capacity, is_err, IsOk, IsErr, IfOk, OnErr};
-ghost use Rattle.std.specs.Bool.{IsTrue, OnTrue};
+ghost use Rattle.outside.specs.Below.{min, [], length, take, drop, Some, vec_len, vec_capacity, is_err, IsOk, IsErr, IfOk, OnErr, IsTrue, OnTrue};
+ghost use Rattle.std.specs.Prelude.{◌≡◌, ◌+◌, ◌-◌, ◌<◌, ◌≤◌, ◌⊎◌, ◌++◌};
 ghost use Rattle.outside.specs.Count.{Rose};
 ghost use Rattle.outside.specs.Plan.{is_due, GoesOn};
 ghost use Rattle.outside.specs.Source.{Moves};

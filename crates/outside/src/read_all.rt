@@ -1,7 +1,7 @@
 //! All that a source has to give, up to a limit.
 
-ghost use Rattle.std.specs.Prelude.{◌≡◌, ℕ, ◌+◌, ◌-◌, ◌^◌, ◌<◌, ◌≤◌, [], ◌++◌, length, take, drop, Some, vec_len, IfOk, OnOk, IsErrOf};
-ghost use Rattle.std.specs.Option.{ForSome};
+ghost use Rattle.outside.specs.Below.{ℕ, [], length, take, drop, Some, vec_len, IfOk, OnOk, IsErrOf, ForSome};
+ghost use Rattle.std.specs.Prelude.{◌≡◌, ◌+◌, ◌-◌, ◌^◌, ◌<◌, ◌≤◌, ◌++◌};
 ghost use Rattle.outside.specs.Count.{Rose};
 
 use crate::source::{Failed, Source};

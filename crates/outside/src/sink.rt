@@ -1,7 +1,7 @@
 //! What bytes are written to.
 
-ghost use Rattle.std.specs.Prelude.{◌≡◌, ℕ, ◌+◌, ◌<◌, ◌≤◌, List, ◌++◌, length, take, Option, None, Some, IfOk, IsOkAnd, OnErr};
-ghost use Rattle.std.specs.Option.{ForSome};
+ghost use Rattle.outside.specs.Below.{ℕ, List, length, take, Option, None, Some, IfOk, IsOkAnd, OnErr, ForSome};
+ghost use Rattle.std.specs.Prelude.{◌≡◌, ◌+◌, ◌<◌, ◌≤◌, ◌++◌};
 ghost use Rattle.outside.specs.Count.{Rose};
 
 use crate::source::Failed;

@@ -1,7 +1,7 @@
 //! What bytes are read from.
 
-ghost use Rattle.std.specs.Prelude.{◌≡◌, ℕ, ◌<◌, ◌≤◌, List, [], length, Option, None, IsOk, IfOk, OnErr};
-ghost use Rattle.std.specs.Option.{ForSome};
+ghost use Rattle.outside.specs.Below.{ℕ, List, [], length, Option, None, IsOk, IfOk, OnErr, ForSome};
+ghost use Rattle.std.specs.Prelude.{◌≡◌, ◌<◌, ◌≤◌};
 ghost use Rattle.outside.specs.Count.{Rose};
 ghost use Rattle.outside.specs.Source.{Moves};
 

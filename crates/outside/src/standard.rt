@@ -1,7 +1,8 @@
 //! Standard input as a source and standard output as a sink, or any other reader and writer. They tell no
 //! bytes, and count each error.
 
-ghost use Rattle.std.specs.Prelude.{◌≡◌, None};
+ghost use Rattle.outside.specs.Below.{None};
+ghost use Rattle.std.specs.Prelude.{◌≡◌};
 
 use crate::faults::one_more;
 use crate::sink::Sink;

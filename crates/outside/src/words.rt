@@ -1,9 +1,8 @@
 //! The words that the program is called with, and what they ask for.
 
-ghost use Rattle.std.specs.Prelude.{◌≡◌, ◌≤◌, map, string_bytes, Some, IfSome};
+ghost use Rattle.outside.specs.Below.{map, string_bytes, Some, IfSome, list_all, is_ascii_digit};
+ghost use Rattle.std.specs.Prelude.{◌≡◌, ◌≤◌};
 ghost use Rattle.outside.specs.Words.{question_alone, question_in, generation_in, job_in, number_written, is_numeral};
-ghost use Rattle.std.specs.List.{list_all};
-ghost use Rattle.std.specs.Char.{is_ascii_digit};
 ghost use Rattle.outside.specs.declared.words.Generation.{Generation as Asked};
 
 /// What commands are generated from: a seed, and how many are wanted.

@@ -1,7 +1,7 @@
 //! All of a text to a sink, however short its writes.
 
-ghost use Rattle.std.specs.Prelude.{◌≡◌, ℕ, ◌<◌, ◌≤◌, ◌++◌, length, take, Some, IsOk, OnOk, OnErr};
-ghost use Rattle.std.specs.Option.{ForSome};
+ghost use Rattle.outside.specs.Below.{ℕ, length, take, Some, IsOk, OnOk, OnErr, ForSome};
+ghost use Rattle.std.specs.Prelude.{◌≡◌, ◌<◌, ◌≤◌, ◌++◌};
 ghost use Rattle.outside.specs.Count.{Rose};
 
 use crate::sink::Sink;

@@ -1,10 +1,6 @@
 -- Bindings in which one name is set, or from which one is taken out.
-use Rattle.std.proofs.Common.{◌≡◌, Bool, true, false, cond, List, [], ◌∷◌, Some, refl}
-use Rattle.std.specs.Prelude.{is_some}
-use Rattle.std.specs.List.{All, AllByRecursion, IsDistinct}
-use Rattle.std.specs.Map.{keys_of}
-use Rattle.std.proofs.lemmas.List.Elements.{All-cons, All-head, All-tail}
-use Rattle.py_node.specs.Attributes.{value_of, with_value, without_key}
+use Rattle.plain_machine.proofs.Below.{Bool, true, false, cond, List, [], Some, refl, is_some, All, AllByRecursion, IsDistinct, keys_of, All-cons, All-head, All-tail, value_of, with_value, without_key}
+use Rattle.std.proofs.Common.{◌≡◌, ◌∷◌}
 
 module _ {K V : Type 0} (same : K → K → Bool) (x : K) where
   -- what is so of each name and of this one

@@ -1,10 +1,6 @@
 -- The changes of a plain world, computed on a small one: two objects of one class.
-use Rattle.std.proofs.Common.{◌≡◌, false, [], ◌∷◌, map, codes, Some, None, refl}
-use Rattle.py_node.specs.Tree.{Text}
-use Rattle.class_model.specs.Class.{Class}
-use Rattle.plain_machine.specs.Plain.{AnObject, AText, no_members, Node, PlainWorld}
-use Rattle.plain_machine.specs.World.{ref}
-use Rattle.plain_machine.specs.Change.{SetOwn, SetBases, SetName, SetClass, SetMember, SetDict, SetDatum, apply}
+use Rattle.plain_machine.proofs.Below.{false, [], map, codes, Some, None, refl, Text, Class, AnObject, AText, no_members, Node, PlainWorld, ref, SetOwn, SetBases, SetName, SetClass, SetMember, SetDict, SetDatum, apply}
+use Rattle.std.proofs.Common.{◌≡◌, ◌∷◌}
 
 abbrev object : Node
 object = record { class = 0; dict = None; members = no_members; datum = AnObject }

@@ -1,9 +1,6 @@
 -- A row may keep several facts in mind, one after another.
-use Rattle.std.proofs.Common.{◌≡◌, ℕ, List, [], ◌∷◌, refl}
-use Rattle.py_node.specs.declared.refs.PyObjectRef.{PyObjectRef}
-use Rattle.py_node.specs.declared.entry.SlotEntry.{SlotEntry}
-use Rattle.plain_machine.specs.Plain.{Bindings, PlainWorld, PlainTask, Ended, Answered, Read, ReadObjects, ReadNames, Chose, Told, Asks}
-use Rattle.plain_machine.specs.Row.{Row, ask, choose, read_once, read_objects, read_names}
+use Rattle.plain_machine.proofs.Below.{ℕ, List, [], refl, PyObjectRef, SlotEntry, Bindings, PlainWorld, PlainTask, Ended, Answered, Read, ReadObjects, ReadNames, Chose, Told, Asks, Row, ask, choose, read_once, read_objects, read_names}
+use Rattle.std.proofs.Common.{◌≡◌, ◌∷◌}
 
 -- entries, objects, names and a way that are read in turn, and then a task is asked
 abbrev all_of : PlainWorld → List SlotEntry → List PyObjectRef → Bindings → ℕ → PlainTask → (List SlotEntry → List PyObjectRef → Bindings → ℕ → Ended → Row) → Row

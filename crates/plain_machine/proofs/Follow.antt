@@ -1,10 +1,6 @@
 -- The laws of `reach` that need no bound on the units: it follows what the row says, and rows that go on alike come out alike.
-use Rattle.std.proofs.Common.{◌≡◌, ℕ, zero, suc, ◌<◌, ◌≤◌, [], ◌∷◌, ◌++◌, refl, sym, ap, ◌∙◌, arith, append_assoc, true, false, cond, nat_lt}
-use Rattle.py_node.specs.declared.raised.Cause.TheVariants.{DepthLimit}
-use Rattle.plain_machine.specs.Plain.{PlainWorld, PlainTask, Ended, Answered, Told, Said, Asks, Ends, Saying}
-use Rattle.plain_machine.specs.Row.{fault}
-use Rattle.plain_machine.specs.Answer.{Over, NoUnits, Outcome, Out, Follow, carry, asked, step, follow, reach}
-use Rattle.plain_machine.specs.Rows.{Pending, Alike}
+use Rattle.plain_machine.proofs.Below.{ℕ, zero, suc, [], refl, sym, ap, ◌∙◌, arith, append_assoc, true, false, cond, DepthLimit, PlainWorld, PlainTask, Ended, Answered, Told, Said, Asks, Ends, Saying, fault, Over, NoUnits, Outcome, Out, Follow, carry, asked, step, follow, reach, Pending, Alike}
+use Rattle.std.proofs.Common.{◌≡◌, ◌<◌, ◌≤◌, ◌∷◌, ◌++◌, nat_lt}
 
 abbrev units_of : Outcome → ℕ
 units_of (Out w e left) = left

@@ -1,9 +1,5 @@
 -- Each change that may be made keeps a sound world sound.
-use Rattle.std.proofs.Common.{Some, None}
-use Rattle.plain_machine.specs.Plain.{PlainWorld}
-use Rattle.plain_machine.specs.Change.{Change, MakeNode, MakeClass, Bind, SetOwn, SetBases, SetName, SetClass, SetMember, SetDict, SetDatum, apply}
-use Rattle.plain_machine.specs.Conditions.{Allowed}
-use Rattle.plain_machine.specs.Sound.{IsSound}
+use Rattle.plain_machine.proofs.Below.{Some, None, PlainWorld, Change, MakeNode, MakeClass, Bind, SetOwn, SetBases, SetName, SetClass, SetMember, SetDict, SetDatum, apply, Allowed, IsSound}
 use Rattle.plain_machine.proofs.KeptNodes.{made-kept, class-kept, member-kept, dict-kept, datum-kept}
 use Rattle.plain_machine.proofs.KeptClasses.{new_class-kept, own-kept, own_out-kept, bases-kept, name-kept}
 use Rattle.plain_machine.proofs.KeptVars.{bind-kept}

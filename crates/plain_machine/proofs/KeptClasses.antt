@@ -1,34 +1,6 @@
 -- A new class and each change of a class keep a sound world sound.
-use Rattle.std.proofs.Common.{◌≡◌, ℕ, ◌<◌, ◌≤◌, true, false, cond, not, eqb, List, [], ◌∷◌, length, Option, Some, None, inl, inr, refl, sym, ap, subst, ◌∙◌, arith}
-use Rattle.std.specs.Prelude.{nat_lt, slice_get, is_some, option_map, option_and_then}
-use Rattle.std.specs.List.{All}
-use Rattle.std.proofs.lemmas.Bool.{ne_eqb}
-use Rattle.std.proofs.lemmas.List.Elements.{All-nil, All-cons, All-head, All-tail, All-push}
-use Rattle.std.proofs.lemmas.Option.{slice_get_within}
-use Rattle.py_node.specs.declared.refs.PyObjectRef.{PyObjectRef}
-use Rattle.py_node.specs.declared.built_in.BuiltIn.{BuiltIn}
-use Rattle.py_node.specs.declared.built_in.BuiltIn.TheVariants.{TypeType}
-use Rattle.py_node.specs.BuiltIns.{all_built_ins}
-use Rattle.py_node.specs.Attributes.{with_value, without_key}
-use Rattle.py_node.specs.Tree.{Text}
-use Rattle.class_model.specs.Order.{Includes}
-use Rattle.class_model.specs.Class.{Class, Classes, is_class, lin}
-use Rattle.class_model.specs.Numbers.{limit}
-use Rattle.class_model.specs.Change.{with_class, with_changed, with_bases}
-use Rattle.class_model.specs.Layout.{built_ins, is_empty}
-use Rattle.class_model.specs.Dict.{says_dict}
-use Rattle.class_model.specs.Slot.{first_with}
-use Rattle.class_model.specs.Sound.{AreSound}
-use Rattle.class_model.proofs.Numbers.{at-before, at-last, old-or-last}
-use Rattle.class_model.proofs.Changed.{lin-push}
-use Rattle.class_model.proofs.Kept.{is_place-agrees, is_class-kept, member_count-kept, lin-kept, is_place-kept, has_dict-kept, sound-kept}
-use Rattle.class_model.proofs.Dict.{has_dict-rebased}
-use Rattle.class_model.proofs.Made.{limit-within, there-made, place-made, solid-made, sound-made}
-use Rattle.plain_machine.specs.Plain.{AClass, no_members, Node, PlainWorld}
-use Rattle.plain_machine.specs.World.{is_text, ref, datum_at}
-use Rattle.plain_machine.specs.Change.{MakeClass, SetOwn, SetBases, SetName, apply}
-use Rattle.plain_machine.specs.Conditions.{CanMakeClass, CanSetBases}
-use Rattle.plain_machine.specs.Sound.{holds_as, held_by, is_offset, AreBound, AreApart, IsSoundNode, IsSound}
+use Rattle.plain_machine.proofs.Below.{ℕ, true, false, cond, not, eqb, List, [], length, Option, Some, None, inl, inr, refl, sym, ap, subst, ◌∙◌, arith, nat_lt, slice_get, is_some, option_map, option_and_then, All, ne_eqb, All-nil, All-cons, All-head, All-tail, All-push, slice_get_within, PyObjectRef, BuiltIn, TypeType, all_built_ins, with_value, without_key, Text, Includes, Class, Classes, is_class, lin, limit, with_class, with_changed, with_bases, built_ins, is_empty, says_dict, first_with, AreSound, at-before, at-last, old-or-last, lin-push, is_place-agrees, is_class-kept, member_count-kept, lin-kept, is_place-kept, has_dict-kept, sound-kept, has_dict-rebased, limit-within, there-made, place-made, solid-made, sound-made, AClass, no_members, Node, PlainWorld, is_text, ref, datum_at, MakeClass, SetOwn, SetBases, SetName, apply, CanMakeClass, CanSetBases, holds_as, held_by, is_offset, AreBound, AreApart, IsSoundNode, IsSound}
+use Rattle.std.proofs.Common.{◌≡◌, ◌<◌, ◌≤◌, ◌∷◌}
 use Rattle.plain_machine.proofs.NearestByLayout.{nearest-by_layout}
 use Rattle.plain_machine.proofs.Offsets.{offset-agrees, offset-kept, offset-push}
 use Rattle.plain_machine.proofs.Bindings.{apart-set, values-set, apart-without, values-without}

@@ -1,19 +1,7 @@
 -- A new node and each change of a node keep a sound world sound.
-use Rattle.std.proofs.Common.{◌≡◌, ℕ, zero, suc, ◌<◌, ◌⊎◌, Bool, true, false, cond, ◌&&◌, eqb, List, [], ◌∷◌, length, Option, Some, None, inl, inr, refl, sym, ap, subst, ◌∙◌}
-use Rattle.std.specs.Prelude.{nat_lt, slice_get, is_some, is_none, option_map}
-use Rattle.std.proofs.lemmas.Bool.{eqb-true, and_parts}
-use Rattle.std.proofs.lemmas.List.Elements.{All-nil}
-use Rattle.py_node.specs.declared.refs.PyObjectRef.{PyObjectRef}
-use Rattle.py_node.specs.declared.built_in.BuiltIn.TheVariants.{Dict, TypeType, Int, Str}
-use Rattle.class_model.specs.Class.{class_at as class_numbered, is_class, is_along}
-use Rattle.class_model.specs.Layout.{layout, member_count, is_place}
-use Rattle.plain_machine.specs.Known.{the_dict}
-use Rattle.plain_machine.specs.Plain.{Datum, AnObject, AClass, ANumber, AText, ATuple, AList, ADict, AFunction, AMethod, ANativeFunction, ABuiltinMethod, AMethodDescriptor, AGetSet, AClassMethod, AStaticMethod, AMember, AProperty, ASuper, AnIterator, ASlice, no_members, Node, PlainWorld}
-use Rattle.plain_machine.specs.World.{ref, node_at, datum_at, class_at, has_dict, push_node, with_node_changed}
-use Rattle.plain_machine.specs.Objects.{class_number}
-use Rattle.plain_machine.specs.Change.{with_place, with_object_changed, MakeNode, SetClass, SetMember, SetDict, SetDatum, apply}
-use Rattle.plain_machine.specs.Conditions.{CanMakeNode, CanSetMember, CanSetDict, CanSetDatum, CanSetClass}
-use Rattle.plain_machine.specs.Sound.{home, held_by, nodes_in, classes_in, is_offset, offsets_in, keys_in, Key, key_of, AreKeys, params_in, IsSoundNode, IsSound}
+use Rattle.plain_machine.proofs.Below.{ℕ, zero, suc, Bool, true, false, cond, eqb, List, [], length, Option, Some, None, inl, inr, refl, sym, ap, subst, ◌∙◌, nat_lt, slice_get, is_some, is_none, option_map, eqb-true, and_parts, All-nil, PyObjectRef, Dict, TypeType, Int, Str, class_at as class_numbered, is_class, is_along, layout, member_count, is_place, the_dict, Datum, AnObject, AClass, ANumber, AText, ATuple, AList, ADict, AFunction, AMethod, ANativeFunction, ABuiltinMethod, AMethodDescriptor, AGetSet, AClassMethod, AStaticMethod, AMember, AProperty, ASuper, AnIterator, ASlice, no_members, Node, PlainWorld, ref, node_at, datum_at, has_dict, push_node, with_node_changed, class_number, with_place, with_object_changed, MakeNode, SetClass, SetMember, SetDict, SetDatum, apply, CanMakeNode, CanSetMember, CanSetDict, CanSetDatum, CanSetClass, home, held_by, nodes_in, classes_in, is_offset, offsets_in, keys_in, Key, key_of, AreKeys, params_in, IsSoundNode, IsSound}
+use Rattle.std.proofs.Common.{◌≡◌, ◌<◌, ◌⊎◌, ◌&&◌, ◌∷◌}
+use Rattle.plain_machine.specs.World.{class_at}
 use Rattle.plain_machine.proofs.NearestByLayout.{held-by_layout}
 use Rattle.plain_machine.proofs.Lasting.{Lasting, lasting, Lasts, like-itself, lasts-on, stands, standing-still, nodes-still, classes-still, offsets-still, keys-still, sound_node-still, bound-still, scopes-still, attrs-still}
 use Rattle.plain_machine.proofs.Pushed.{get-end, get-pushed, holder, pushed, push-lasts, push-kept}

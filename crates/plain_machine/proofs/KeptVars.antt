@@ -1,15 +1,6 @@
 -- A variable that is bound keeps a sound world sound.
-use Rattle.std.proofs.Common.{◌≡◌, ◌<◌, true, List, [], ◌∷◌, length, refl}
-use Rattle.std.specs.Prelude.{is_some}
-use Rattle.std.specs.List.{All}
-use Rattle.std.proofs.lemmas.List.Elements.{All-cons, All-head, All-tail, All-weaker}
-use Rattle.py_node.specs.declared.refs.PyObjectRef.{PyObjectRef}
-use Rattle.py_node.specs.Attributes.{value_of, with_value}
-use Rattle.py_node.specs.Tree.{Text}
-use Rattle.plain_machine.specs.Plain.{Bindings, Scope, PlainWorld}
-use Rattle.plain_machine.specs.World.{is_text, datum_at, bound, bound_last, with_binding}
-use Rattle.plain_machine.specs.Change.{Bind, apply}
-use Rattle.plain_machine.specs.Sound.{AreBound, AreApart, params_in, IsSoundScope, IsSound}
+use Rattle.plain_machine.proofs.Below.{true, List, [], length, refl, is_some, All, All-cons, All-head, All-tail, All-weaker, PyObjectRef, value_of, with_value, Text, Bindings, Scope, PlainWorld, is_text, datum_at, bound, bound_last, with_binding, Bind, apply, AreBound, AreApart, params_in, IsSoundScope, IsSound}
+use Rattle.std.proofs.Common.{◌≡◌, ◌<◌, ◌∷◌}
 use Rattle.plain_machine.proofs.Lasting.{Lasts, like-itself, sound_node-still, scopes-still, attrs-still}
 use Rattle.plain_machine.proofs.Bindings.{apart-set, values-set, known-set}
 

@@ -1,21 +1,8 @@
 -- Worlds of which the second keeps what the first has: what was sound in the first is sound in the second.
-use Rattle.std.proofs.Common.{◌≡◌, ℕ, zero, suc, ◌<◌, true, List, [], ◌∷◌, length, Option, Some, None, refl, sym, ap, subst, ◌∙◌, arith}
-use Rattle.std.specs.Prelude.{◌&&◌, slice_get, is_some, is_none, option_map, option_and_then}
-use Rattle.std.specs.List.{All}
-use Rattle.std.proofs.lemmas.List.Elements.{All-weaker}
-use Rattle.std.proofs.lemmas.Option.{slice_get_within}
-use Rattle.py_node.specs.declared.refs.PyObjectRef.{PyObjectRef}
-use Rattle.py_node.specs.declared.built_in.BuiltIn.{BuiltIn}
-use Rattle.py_node.specs.declared.built_in.BuiltIn.TheVariants.{Dict, Function}
-use Rattle.py_node.specs.Attributes.{value_of}
-use Rattle.py_node.specs.Tree.{Text}
-use Rattle.class_model.specs.Class.{Class, Classes, is_class}
-use Rattle.class_model.specs.Layout.{is_place}
+use Rattle.plain_machine.proofs.Below.{ℕ, zero, suc, true, List, [], length, Option, Some, None, refl, sym, ap, subst, ◌∙◌, arith, slice_get, is_some, is_none, option_map, option_and_then, All, All-weaker, slice_get_within, PyObjectRef, BuiltIn, Dict, Function, value_of, Text, Class, Classes, is_class, is_place, Datum, AnObject, AClass, ANumber, AText, ATuple, AList, ADict, AFunction, AMethod, ANativeFunction, ABuiltinMethod, AMethodDescriptor, AGetSet, AClassMethod, AStaticMethod, AMember, AProperty, ASuper, AnIterator, ASlice, Node, Bindings, Scope, PlainWorld, is_text, ref, datum_at, class_number, home, held_by, nodes_in, classes_in, is_offset, offsets_in, keys_in, Key, key_of, key_at, AreKeys, AreThere, AreOffsets, AreBound, AreApart, params_in, IsSoundNode, IsSoundScope}
+use Rattle.std.proofs.Common.{◌≡◌, ◌<◌, ◌∷◌}
+use Rattle.std.specs.Prelude.{◌&&◌}
 use Rattle.class_model.specs.Dict.{has_dict}
-use Rattle.plain_machine.specs.Plain.{Datum, AnObject, AClass, ANumber, AText, ATuple, AList, ADict, AFunction, AMethod, ANativeFunction, ABuiltinMethod, AMethodDescriptor, AGetSet, AClassMethod, AStaticMethod, AMember, AProperty, ASuper, AnIterator, ASlice, Node, Bindings, Scope, PlainWorld}
-use Rattle.plain_machine.specs.World.{is_text, ref, datum_at}
-use Rattle.plain_machine.specs.Objects.{class_number}
-use Rattle.plain_machine.specs.Sound.{home, held_by, nodes_in, classes_in, is_offset, offsets_in, keys_in, Key, key_of, key_at, AreKeys, AreThere, AreOffsets, AreBound, AreApart, params_in, IsSoundNode, IsSoundScope}
 
 -- what an object tells for ever: whose like it holds, the key that it is, the class that it stands for, and the parameters of a function
 pub record Lasting : Type 0 where

@@ -1,3 +1,5 @@
+pub mod Lemmas
+pub mod Below
 pub mod Follow
 pub mod NewMachine
 pub mod Changes

@@ -1,13 +1,6 @@
 -- A class's nearest built-in class is the last built-in one of its layout: classes with one layout hold the like.
-use Rattle.std.proofs.Common.{◌≡◌, ℕ, Bool, true, false, cond, ◌||◌, List, [], ◌∷◌, ◌++◌, Option, Some, None, refl, sym, ap, ◌∙◌}
-use Rattle.std.specs.Prelude.{nat_lt, slice_get, option_map, option_and_then}
-use Rattle.std.proofs.lemmas.List.{append-nil}
-use Rattle.py_node.specs.BuiltIns.{all_built_ins}
-use Rattle.class_model.specs.Class.{Classes, class_at, or_else, lin}
-use Rattle.class_model.specs.Layout.{built_ins, has_members, is_solid, layout_along, layout}
-use Rattle.class_model.specs.Slot.{first_with}
-use Rattle.plain_machine.specs.Objects.{nearest_built_in}
-use Rattle.plain_machine.specs.Sound.{holds_as, held_by}
+use Rattle.plain_machine.proofs.Below.{ℕ, Bool, true, false, cond, List, [], Option, Some, None, refl, sym, ap, ◌∙◌, nat_lt, slice_get, option_map, option_and_then, append-nil, all_built_ins, Classes, class_at, or_else, lin, built_ins, has_members, is_solid, layout_along, layout, first_with, nearest_built_in, holds_as, held_by}
+use Rattle.std.proofs.Common.{◌≡◌, ◌||◌, ◌∷◌, ◌++◌}
 
 -- the last of some classes that is built in
 abbrev last_built_in : List ℕ → Option ℕ

@@ -1,8 +1,6 @@
 -- The world of a new machine, by computation: how many nodes it has, and what some slots of its classes are.
-use Rattle.std.proofs.Common.{◌≡◌, ℕ, length, codes, Option, Some, None, refl}
-use Rattle.py_node.specs.declared.entry.SlotId.{SlotId}
-use Rattle.py_node.specs.declared.entry.SlotId.TheVariants.{Add, RightAdd, Hash, Call, Repr, Richcompare, Init, New, DescrGet, DescrSet}
-use Rattle.py_node.specs.declared.entry.NativeEntry.TheVariants.{OfObject, OfType, OfInt, OfCallable, OfDescriptor, Compare}
+use Rattle.plain_machine.proofs.Below.{ℕ, length, codes, Option, Some, None, refl, SlotId, Add, RightAdd, Hash, Call, Repr, Richcompare, Init, New, DescrGet, DescrSet, OfObject, OfType, OfInt, OfCallable, OfDescriptor, Compare, SlotEntry, Native, Unhashable, name_of, base_of, flags_of, all_built_ins, built_in_names, built_in_bases, built_in_flags, place_of as slot_place, all_slots, slot_sorts, sort_of, slot_names, names_of, slot_fillings, filling_of, known_text, known_texts, number_of, own_attrs, linear, least_order, all_arrangements, arrangements, found, slot, natives_of, ref, is_text, text_keys, with_attr, start}
+use Rattle.std.proofs.Common.{◌≡◌}
 use Rattle.py_node.specs.declared.entry.ObjectNative.TheVariants as object
 use Rattle.py_node.specs.declared.entry.TypeNative.TheVariants as type
 use Rattle.py_node.specs.declared.entry.IntNative.TheVariants as int
@@ -10,18 +8,7 @@ use Rattle.py_node.specs.declared.entry.CallableNative.TheVariants as callable
 use Rattle.py_node.specs.declared.entry.DescriptorNative.TheVariants as descriptor
 use Rattle.py_node.specs.declared.entry.CompareNative.TheVariants.{All}
 use Rattle.py_node.specs.declared.built_in.BuiltIn.TheVariants as built_in
-use Rattle.py_node.specs.declared.entry.SlotEntry.{SlotEntry}
-use Rattle.py_node.specs.declared.entry.SlotEntry.TheVariants.{Native, Unhashable}
-use Rattle.py_node.specs.BuiltIns.{place_of, name_of, base_of, flags_of, all_built_ins, built_in_names, built_in_bases, built_in_flags}
-use Rattle.py_node.specs.Slots.{place_of as slot_place, all_slots, slot_sorts, sort_of, slot_names, names_of, slot_fillings, filling_of}
-use Rattle.py_node.specs.Known.{known_text, known_texts, number_of}
-use Rattle.py_node.specs.OwnAttrs.{own_attrs}
-use Rattle.class_model.specs.Order.{linear, least_order, all_arrangements, arrangements}
-use Rattle.class_model.specs.Class.{found}
-use Rattle.class_model.specs.Slot.{slot}
-use Rattle.class_model.specs.BuiltIn.{natives_of}
-use Rattle.plain_machine.specs.World.{ref, is_text, text_keys}
-use Rattle.plain_machine.specs.Start.{with_attr, start}
+use Rattle.py_node.specs.BuiltIns.{place_of}
 
 -- 23 classes, 4 fixed objects and 264 attributes
 nodes-counted : length start.nodes ≡ 291

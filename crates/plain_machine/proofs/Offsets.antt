@@ -1,17 +1,6 @@
 -- Offsets stay those of places where classes keep their layouts and their members, and where one more class is made.
-use Rattle.std.proofs.Common.{◌≡◌, ℕ, ◌+◌, ◌-◌, ◌<◌, Bool, true, false, cond, not, ◌||◌, List, [], ◌∷◌, ◌++◌, Option, Some, None, inl, inr, refl, sym, ap, ◌∙◌, arith}
-use Rattle.std.specs.Prelude.{nat_lt, is_some, option_map, option_and_then}
-use Rattle.std.proofs.lemmas.Bool.{ltb-true, ltb-false}
-use Rattle.class_model.specs.Order.{Includes}
-use Rattle.class_model.specs.Class.{Class, Classes, class_at, lin}
-use Rattle.class_model.specs.Change.{with_class, with_changed}
-use Rattle.class_model.specs.Layout.{built_ins, is_empty, has_members, is_solid, layout_along, layout, member_count, members_in, place_along, place_at}
-use Rattle.class_model.proofs.Numbers.{at-before, at-changed}
-use Rattle.class_model.proofs.Rule.{lin-classes}
-use Rattle.class_model.proofs.Changed.{lin-push}
-use Rattle.class_model.proofs.Solid.{is_solid-push}
-use Rattle.class_model.proofs.Kept.{layout_along-agrees, layout-agrees, lin-kept, member_count-kept}
-use Rattle.plain_machine.specs.Sound.{is_below, is_offset}
+use Rattle.plain_machine.proofs.Below.{ℕ, Bool, true, false, cond, not, List, [], Option, Some, None, inl, inr, refl, sym, ap, ◌∙◌, arith, nat_lt, is_some, option_map, option_and_then, ltb-true, ltb-false, Includes, Class, Classes, class_at, lin, with_class, with_changed, built_ins, is_empty, has_members, is_solid, layout_along, layout, member_count, members_in, place_along, place_at, at-before, at-changed, lin-classes, lin-push, is_solid-push, layout_along-agrees, layout-agrees, lin-kept, member_count-kept, is_below, is_offset}
+use Rattle.std.proofs.Common.{◌≡◌, ◌+◌, ◌-◌, ◌<◌, ◌||◌, ◌∷◌, ◌++◌}
 
 module _ {K : Type 0} (t u : Classes K) where
   members-agree : (line : List ℕ) → ((x : ℕ) → member_count (class_at t x) ≡ member_count (class_at u x)) → members_in t line ≡ members_in u line

@@ -1,13 +1,6 @@
 -- One more node, and classes that are like those before, keep a sound world sound.
-use Rattle.std.proofs.Common.{◌≡◌, ℕ, zero, suc, true, List, [], ◌∷◌, ◌++◌, length, Option, Some, None, refl, ap, subst, ◌∙◌}
-use Rattle.std.specs.Prelude.{slice_get, option_map}
-use Rattle.std.specs.List.{All}
-use Rattle.py_node.specs.Tree.{Text}
-use Rattle.class_model.specs.Class.{Classes, is_class}
-use Rattle.class_model.specs.Sound.{AreSound}
-use Rattle.plain_machine.specs.Plain.{Datum, AClass, Node, PlainWorld}
-use Rattle.plain_machine.specs.World.{ref, datum_at}
-use Rattle.plain_machine.specs.Sound.{AreBound, AreApart, IsSoundNode, IsSound}
+use Rattle.plain_machine.proofs.Below.{ℕ, zero, suc, true, List, [], length, Option, Some, None, refl, ap, subst, ◌∙◌, slice_get, option_map, All, Text, Classes, is_class, AreSound, Datum, AClass, Node, PlainWorld, ref, datum_at, AreBound, AreApart, IsSoundNode, IsSound}
+use Rattle.std.proofs.Common.{◌≡◌, ◌∷◌, ◌++◌}
 use Rattle.plain_machine.proofs.Lasting.{Like, Lasts, sound_node-still, bound-still, scopes-still}
 
 module _ {A : Type 0} where

@@ -1,9 +1,6 @@
 -- What a task answers: its row is followed until it ends. And what a list of commands is answered.
-use Rattle.std.specs.Prelude.{ℕ, zero, suc, List, [], ◌∷◌, ◌++◌, nat_lt, cond, length, Ok, Err}
-use Rattle.py_node.specs.declared.raised.Cause.TheVariants.{DepthLimit}
-use Rattle.py_node.specs.Tree.{Tree}
-use Rattle.py_node.specs.Replies.{PlainReply, GivesValue, GivesRaise, GivesBudget}
-use Rattle.py_node.specs.Replies.{PlainReplyAnswer as Answering}
+use Rattle.plain_machine.specs.Below.{ℕ, zero, suc, List, [], nat_lt, cond, length, Ok, Err, DepthLimit, Tree, PlainReply, GivesValue, GivesRaise, GivesBudget, PlainReplyAnswer as Answering}
+use Rattle.std.specs.Prelude.{◌∷◌, ◌++◌}
 use Rattle.plain_machine.specs.Plain.{PlainWorld, DoEval, PlainTask, ToEval, AsValue, Ended, Answered, Told, Said, Asks, Ends, Saying}
 use Rattle.plain_machine.specs.World.{at_depth, without_calls}
 use Rattle.plain_machine.specs.Row.{fault, none}

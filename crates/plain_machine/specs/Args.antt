@@ -1,8 +1,6 @@
 -- Arguments, as rows take them apart.
-use Rattle.std.specs.Prelude.{List, [], ◌∷◌, Option, Some, None}
-use Rattle.py_node.specs.declared.refs.PyObjectRef.{PyObjectRef}
-use Rattle.py_node.specs.Attributes.{with_value}
-use Rattle.py_node.specs.Tree.{Text}
+use Rattle.plain_machine.specs.Below.{List, [], Option, Some, None, PyObjectRef, with_value, Text}
+use Rattle.std.specs.Prelude.{◌∷◌}
 use Rattle.plain_machine.specs.Plain.{Bindings}
 use Rattle.plain_machine.specs.World.{is_text}
 

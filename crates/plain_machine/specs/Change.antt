@@ -1,9 +1,6 @@
 -- The changes of a plain world. Each touches what it names, and nothing else.
-use Rattle.std.specs.Prelude.{ℕ, cond, eqb, ◌&&◌, List, Option, Some, None}
-use Rattle.py_node.specs.declared.refs.PyObjectRef.{PyObjectRef}
-use Rattle.py_node.specs.Tree.{Text}
-use Rattle.class_model.specs.Class.{Class}
-use Rattle.class_model.specs.Change.{without_class_attr, with_class_name, with_bases}
+use Rattle.plain_machine.specs.Below.{ℕ, cond, eqb, List, Option, Some, None, PyObjectRef, Text, Class, without_class_attr, with_class_name, with_bases}
+use Rattle.std.specs.Prelude.{◌&&◌}
 use Rattle.plain_machine.specs.Plain.{Datum, Places, Node, PlainWorld}
 use Rattle.plain_machine.specs.World.{is_text, with_node, with_node_changed, with_binding, with_own_attr, with_new_class}
 

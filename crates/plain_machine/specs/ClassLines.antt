@@ -1,7 +1,6 @@
 -- What is written for a class.
-use Rattle.std.specs.Prelude.{Bool, List, [], ◌++◌, map, codes, if◌then◌else◌}
-use Rattle.std.specs.List.{flat_map}
-use Rattle.py_node.specs.Tree.{Text}
+use Rattle.plain_machine.specs.Below.{Bool, List, [], map, codes, flat_map, Text}
+use Rattle.std.specs.Prelude.{◌++◌, if◌then◌else◌}
 use Rattle.plain_machine.specs.Escapes.{escaped}
 use Rattle.plain_machine.specs.Lines.{joined, end_of_line}
 

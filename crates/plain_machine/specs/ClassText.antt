@@ -1,16 +1,6 @@
 -- What is written for the classes that scripts made.
-use Rattle.std.specs.Prelude.{ℕ, cond, List, [], ◌∷◌, codes, map, Option, Some, None, option_map}
-use Rattle.std.specs.List.{flat_map}
-use Rattle.py_node.specs.declared.entry.SlotId.{SlotId}
-use Rattle.py_node.specs.declared.entry.SlotEntry.{SlotEntry}
-use Rattle.py_node.specs.declared.entry.SlotEntry.TheVariants.{Native, Wrapper, Unhashable}
-use Rattle.py_node.specs.Slots.{printed_name, all_slots}
-use Rattle.py_node.specs.Tree.{Text}
-use Rattle.class_model.specs.Class.{class_at as class_numbered, Classes, lin}
-use Rattle.class_model.specs.Name.{short_name}
-use Rattle.class_model.specs.Numbers.{numbers_of}
-use Rattle.class_model.specs.Slot.{Keys, is_heap_at, entry}
-use Rattle.class_model.specs.BuiltIn.{natives_of}
+use Rattle.plain_machine.specs.Below.{ℕ, cond, List, [], codes, map, Option, Some, None, option_map, flat_map, SlotId, SlotEntry, Native, Wrapper, Unhashable, printed_name, all_slots, Text, class_at as class_numbered, Classes, lin, short_name, numbers_of, Keys, is_heap_at, entry, natives_of}
+use Rattle.std.specs.Prelude.{◌∷◌}
 use Rattle.plain_machine.specs.ClassLines.{class_lines}
 use Rattle.plain_machine.specs.Plain.{PlainWorld}
 use Rattle.plain_machine.specs.World.{text_keys, or_empty}

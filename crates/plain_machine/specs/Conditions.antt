@@ -1,15 +1,7 @@
 -- When a change may be made: under these conditions it keeps a sound world sound.
-use Rattle.std.specs.Prelude.{◌≡◌, ℕ, ◌<◌, true, false, is_some, List, Option, Some, None, length, option_map}
-use Rattle.std.specs.List.{All}
-use Rattle.py_node.specs.declared.refs.PyObjectRef.{PyObjectRef}
+use Rattle.plain_machine.specs.Below.{ℕ, true, false, is_some, List, Option, Some, None, length, option_map, All, PyObjectRef, Text, Class, class_at as class_numbered, is_class, lin, with_class, with_bases, base, layout, is_empty, is_place, is_heap_at, says_dict, has_its_dict, keeps_dict, AreSound}
+use Rattle.std.specs.Prelude.{◌≡◌, ◌<◌}
 use Rattle.py_node.specs.declared.built_in.BuiltIn.TheVariants as built_in
-use Rattle.py_node.specs.Tree.{Text}
-use Rattle.class_model.specs.Class.{Class, class_at as class_numbered, is_class, lin}
-use Rattle.class_model.specs.Change.{with_class, with_bases}
-use Rattle.class_model.specs.Layout.{base, layout, is_empty, is_place}
-use Rattle.class_model.specs.Slot.{is_heap_at}
-use Rattle.class_model.specs.Dict.{says_dict, has_its_dict, keeps_dict}
-use Rattle.class_model.specs.Sound.{AreSound}
 use Rattle.plain_machine.specs.Known.{the_dict}
 use Rattle.plain_machine.specs.Plain.{Datum, PlainWorld}
 use Rattle.plain_machine.specs.Sound.{home, held_by, nodes_in, classes_in, offsets_in, keys_in, key_at, AreKeys, AreThere, AreOffsets, AreBound, AreApart, params_in}

@@ -1,9 +1,6 @@
 -- The dicts of objects: what stands in one under a text, and how that is set and taken out.
-use Rattle.std.specs.Prelude.{Bool, false, cond, ◌||◌, nat_lt, length, List, [], ◌∷◌, ◌++◌, Option, Some, None, is_some, option_and_then, fold}
-use Rattle.std.specs.Ordering.{int_eq}
-use Rattle.py_node.specs.declared.refs.PyObjectRef.{PyObjectRef}
-use Rattle.py_node.specs.Attributes.{value_of}
-use Rattle.py_node.specs.Tree.{Text}
+use Rattle.plain_machine.specs.Below.{Bool, false, cond, nat_lt, length, List, [], Option, Some, None, is_some, option_and_then, fold, int_eq, PyObjectRef, value_of, Text}
+use Rattle.std.specs.Prelude.{◌||◌, ◌∷◌, ◌++◌}
 use Rattle.plain_machine.specs.Plain.{Datum, AText, ADict, PlainWorld}
 use Rattle.plain_machine.specs.Known.{the_str}
 use Rattle.plain_machine.specs.World.{is_text, node_at, datum_at, with_node, next_node}

@@ -1,8 +1,6 @@
 -- Names and texts as they are written, each on one line.
-use Rattle.std.specs.Prelude.{ℕ, ◌/◌, ◌%◌, [], ◌∷◌, ◌++◌, ◌==◌, nat_lt, if◌then◌else◌}
-use Rattle.std.specs.Char.{digit_char}
-use Rattle.std.specs.List.{flat_map}
-use Rattle.py_node.specs.Tree.{Text}
+use Rattle.plain_machine.specs.Below.{ℕ, [], nat_lt, digit_char, flat_map, Text}
+use Rattle.std.specs.Prelude.{◌/◌, ◌%◌, ◌∷◌, ◌++◌, ◌==◌, if◌then◌else◌}
 
 -- a backslash, and this byte
 abbrev pub mark : ℕ → Text

@@ -1,5 +1,5 @@
 -- The built-in classes that rows name, by their places.
-use Rattle.std.specs.Prelude.{ℕ}
+use Rattle.plain_machine.specs.Below.{ℕ}
 
 abbrev pub the_object : ℕ
 the_object = 0

@@ -1,9 +1,6 @@
 -- What is written for the replies to a script.
-use Rattle.std.specs.Prelude.{List, [], ◌∷◌, ◌++◌, codes}
-use Rattle.std.specs.List.{flat_map}
-use Rattle.py_node.specs.Tree.{Text}
-use Rattle.py_node.specs.Faults.{kind_word, cause_word}
-use Rattle.py_node.specs.Replies.{PlainReply, Started, PlainReplyAnswer, GivesValue, GivesRaise, GivesBudget}
+use Rattle.plain_machine.specs.Below.{List, [], codes, flat_map, Text, kind_word, cause_word, PlainReply, Started, PlainReplyAnswer, GivesValue, GivesRaise, GivesBudget}
+use Rattle.std.specs.Prelude.{◌∷◌, ◌++◌}
 use Rattle.plain_machine.specs.Escapes.{escaped}
 
 -- an end of line

@@ -1,6 +1,5 @@
 -- The members of objects: what stands in a place of one, and how that is set.
-use Rattle.std.specs.Prelude.{ℕ, Option, Some, None, option_and_then}
-use Rattle.py_node.specs.declared.refs.PyObjectRef.{PyObjectRef}
+use Rattle.plain_machine.specs.Below.{ℕ, Option, Some, None, option_and_then, PyObjectRef}
 use Rattle.plain_machine.specs.Plain.{PlainWorld}
 use Rattle.plain_machine.specs.World.{node_at}
 use Rattle.plain_machine.specs.Change.{SetMember, apply}

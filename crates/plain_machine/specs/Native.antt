@@ -1,8 +1,5 @@
 -- Which task a native is.
-use Rattle.std.specs.Prelude.{List}
-use Rattle.py_node.specs.declared.refs.PyObjectRef.{PyObjectRef}
-use Rattle.py_node.specs.declared.entry.NativeEntry.{NativeEntry}
-use Rattle.py_node.specs.declared.entry.NativeEntry.TheVariants.{OfObject, OfType, OfInt}
+use Rattle.plain_machine.specs.Below.{List, PyObjectRef, NativeEntry, OfObject, OfType, OfInt}
 use Rattle.plain_machine.specs.Plain.{Bindings, DoObject, DoType, DoInt, PlainTask, ToCall, ToClass, ToOperator, ToNative}
 
 -- a native is asked with its arguments and keywords, in the group that it stands in, if any

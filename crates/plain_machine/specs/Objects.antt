@@ -1,12 +1,6 @@
 -- What rows read of objects and classes.
-use Rattle.std.specs.Prelude.{ℕ, ◌^◌, Bool, true, false, ◌&&◌, ◌==◌, nat_lt, List, [], ◌∷◌, Option, Some, None, option_map, option_and_then}
-use Rattle.std.specs.Int.RustNames.{bit_and}
-use Rattle.py_node.specs.declared.refs.PyObjectRef.{PyObjectRef}
-use Rattle.py_node.specs.BuiltIns.{method_descriptor}
-use Rattle.py_node.specs.Tree.{Text}
-use Rattle.class_model.specs.Class.{class_at as class_numbered, Classes, found, is_sub, has_flag, lin}
-use Rattle.class_model.specs.Layout.{built_ins}
-use Rattle.class_model.specs.Slot.{first_with}
+use Rattle.plain_machine.specs.Below.{ℕ, Bool, true, false, nat_lt, List, [], Option, Some, None, option_map, option_and_then, bit_and, PyObjectRef, method_descriptor, Text, class_at as class_numbered, Classes, found, is_sub, has_flag, lin, built_ins, first_with}
+use Rattle.std.specs.Prelude.{◌^◌, ◌&&◌, ◌==◌, ◌∷◌}
 use Rattle.plain_machine.specs.Plain.{Datum, AClass, AFunction, AClassMethod, AMethodDescriptor, Node, PlainWorld}
 use Rattle.plain_machine.specs.World.{ref, datum_at, class_at, is_text, with_node_changed}
 

@@ -1,24 +1,5 @@
 -- The plain world, the tasks, and what their rows say. Texts and trees stand where the code has numbers.
-use Rattle.std.specs.Prelude.{ℕ, ℤ, Bool, List, Option, None, Result}
-use Rattle.py_node.specs.declared.refs.PyObjectRef.{PyObjectRef}
-use Rattle.py_node.specs.declared.raised.Raised.{Raised as Fault}
-use Rattle.py_node.specs.declared.entry.IntNative.{IntNative}
-use Rattle.py_node.specs.declared.entry.ObjectNative.{ObjectNative}
-use Rattle.py_node.specs.declared.entry.TypeNative.{TypeNative}
-use Rattle.py_node.specs.declared.entry.NativeEntry.{NativeEntry}
-use Rattle.py_node.specs.declared.entry.SlotEntry.{SlotEntry}
-use Rattle.py_node.specs.declared.payload.MemberKind.{MemberKind}
-use Rattle.py_node.specs.declared.payload.MemberGetter.{MemberGetter}
-use Rattle.py_node.specs.declared.payload.MemberSetter.{MemberSetter}
-use Rattle.py_node.specs.declared.payload.PyProperty.{PyProperty}
-use Rattle.py_node.specs.declared.payload.PySlice.{PySlice}
-use Rattle.py_node.specs.declared.payload.SequenceIterator.{SequenceIterator}
-use Rattle.py_node.specs.declared.task.PyNumberBinaryOp.{PyNumberBinaryOp}
-use Rattle.py_node.specs.declared.task.PyNumberUnaryOp.{PyNumberUnaryOp}
-use Rattle.py_node.specs.declared.task.PyComparisonOp.{PyComparisonOp}
-use Rattle.py_node.specs.Tree.{Text, Tree}
-use Rattle.py_node.specs.Replies.{Started}
-use Rattle.class_model.specs.Class.{Classes}
+use Rattle.plain_machine.specs.Below.{ℕ, ℤ, Bool, List, Option, None, Result, PyObjectRef, Raised as Fault, IntNative, ObjectNative, TypeNative, NativeEntry, SlotEntry, MemberKind, MemberGetter, MemberSetter, PyProperty, PySlice, SequenceIterator, PyNumberBinaryOp, PyNumberUnaryOp, PyComparisonOp, Text, Tree, Started, Classes}
 
 -- what a node holds beside its class, its dict and its members
 pub data Datum : Type 0 where

@@ -1,15 +1,6 @@
 -- The words that rows are written in.
-use Rattle.std.specs.Prelude.{ℕ, ◌^◌, ℤ, pos, negsuc, Bool, true, false, cond, eqb, nat_le, nat_lt, length, List, [], ◌∷◌, Option, Some, None, Result, Ok, Err}
-use Rattle.py_node.specs.declared.refs.PyObjectRef.{PyObjectRef}
-use Rattle.py_node.specs.declared.raised.Raised.{Raised as Fault}
-use Rattle.py_node.specs.declared.raised.Kind.{Kind}
-use Rattle.py_node.specs.declared.raised.Kind.TheVariants.{AttributeError}
-use Rattle.py_node.specs.declared.raised.Cause.{Cause}
-use Rattle.py_node.specs.declared.raised.Cause.TheVariants.{SelfType, TooLong}
-use Rattle.py_node.specs.declared.entry.SlotEntry.{SlotEntry}
-use Rattle.py_node.specs.BuiltIns.{fixed_none, fixed_not_implemented, fixed_false, fixed_true}
-use Rattle.py_node.specs.Tree.{Tree}
-use Rattle.py_node.specs.Faults.{raised}
+use Rattle.plain_machine.specs.Below.{ℕ, ℤ, pos, negsuc, Bool, true, false, cond, eqb, nat_le, nat_lt, length, List, [], Option, Some, None, Result, Ok, Err, PyObjectRef, Raised as Fault, Kind, AttributeError, Cause, SelfType, TooLong, SlotEntry, fixed_none, fixed_not_implemented, fixed_false, fixed_true, Tree, raised}
+use Rattle.std.specs.Prelude.{◌^◌, ◌∷◌}
 use Rattle.plain_machine.specs.Plain.{Datum, Bindings, PlainWorld, DoEval, PlainTask, ToEval, AsValue, AsDone, AsNumber, AsTruth, AsMaybe, Ended, Fact, Answered, Made, Read, ReadObjects, ReadNames, Chose, Told, Said, Asks, Ends}
 use Rattle.plain_machine.specs.World.{ref, datum_at, number_of, with_node, next_node}
 

@@ -1,5 +1,6 @@
 -- Rows at some point, and when two go on alike.
-use Rattle.std.specs.Prelude.{◌≡◌, [], ◌∷◌, ◌++◌}
+use Rattle.plain_machine.specs.Below.{[]}
+use Rattle.std.specs.Prelude.{◌≡◌, ◌∷◌, ◌++◌}
 use Rattle.plain_machine.specs.Plain.{PlainWorld, Ended, Answered, Told, Saying}
 
 -- a row at some point: its task, and what it has learnt so far

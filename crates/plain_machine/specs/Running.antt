@@ -1,6 +1,6 @@
 -- The body that runs.
-use Rattle.std.specs.Prelude.{List, [], ◌∷◌, Option, Some, None}
-use Rattle.py_node.specs.declared.refs.PyObjectRef.{PyObjectRef}
+use Rattle.plain_machine.specs.Below.{List, [], Option, Some, None, PyObjectRef}
+use Rattle.std.specs.Prelude.{◌∷◌}
 use Rattle.plain_machine.specs.Plain.{Scope}
 
 -- the function whose body runs: that of the last scope

@@ -1,13 +1,8 @@
 -- The text of an object, as replies show it.
-use Rattle.std.specs.Prelude.{ℕ, zero, suc, List, [], ◌∷◌, ◌++◌, codes, map, take, drop, Option, Some, None, if◌then◌else◌, ◌==◌}
-use Rattle.std.specs.Fmt.{signed_decimal}
-use Rattle.py_node.specs.declared.refs.PyObjectRef.{PyObjectRef}
-use Rattle.py_node.specs.BuiltIns.{fixed_none, fixed_not_implemented, fixed_false, fixed_true}
-use Rattle.py_node.specs.Tree.{Text}
+use Rattle.plain_machine.specs.Below.{ℕ, zero, suc, List, [], codes, map, take, drop, Option, Some, None, signed_decimal, PyObjectRef, fixed_none, fixed_not_implemented, fixed_false, fixed_true, Text, class_at as class_numbered, short_name}
+use Rattle.std.specs.Prelude.{◌∷◌, ◌++◌, if◌then◌else◌, ◌==◌}
 use Rattle.plain_machine.specs.Escapes.{escaped, quoted}
 use Rattle.plain_machine.specs.Lines.{joined}
-use Rattle.class_model.specs.Class.{class_at as class_numbered}
-use Rattle.class_model.specs.Name.{short_name}
 use Rattle.plain_machine.specs.Plain.{Datum, AClass, ANumber, AText, ATuple, AList, ADict, Node, PlainWorld}
 use Rattle.plain_machine.specs.World.{node_at}
 

@@ -1,20 +1,9 @@
 -- What a plain world keeps to, before and after each of its changes.
-use Rattle.std.specs.List.{All, IsDistinct}
-use Rattle.std.specs.Map.{keys_of}
-use Rattle.std.specs.Prelude.{◌≡◌, ℕ, ℤ, ◌<◌, Bool, true, false, ◌&&◌, nat_lt, is_some, is_none, List, [], ◌∷◌, ◌++◌, map, length, Option, Some, None, slice_get, option_map, option_and_then}
-use Rattle.py_node.specs.declared.refs.PyObjectRef.{PyObjectRef}
-use Rattle.py_node.specs.declared.payload.MemberGetter.{MemberGetter}
+use Rattle.plain_machine.specs.Below.{All, IsDistinct, keys_of, ℕ, ℤ, Bool, true, false, nat_lt, is_some, is_none, List, [], map, length, Option, Some, None, slice_get, option_map, option_and_then, PyObjectRef, MemberGetter, MemberSetter, BuiltIn, all_built_ins, value_of, Text, Classes, is_class, is_place, place_count, AreSound}
+use Rattle.std.specs.Prelude.{◌≡◌, ◌<◌, ◌&&◌, ◌∷◌, ◌++◌}
 use Rattle.py_node.specs.declared.payload.MemberGetter.TheVariants as getter
-use Rattle.py_node.specs.declared.payload.MemberSetter.{MemberSetter}
 use Rattle.py_node.specs.declared.payload.MemberSetter.TheVariants as setter
-use Rattle.py_node.specs.declared.built_in.BuiltIn.{BuiltIn}
 use Rattle.py_node.specs.declared.built_in.BuiltIn.TheVariants as built_in
-use Rattle.py_node.specs.BuiltIns.{all_built_ins}
-use Rattle.py_node.specs.Attributes.{value_of}
-use Rattle.py_node.specs.Tree.{Text}
-use Rattle.class_model.specs.Class.{Classes, is_class}
-use Rattle.class_model.specs.Layout.{is_place, place_count}
-use Rattle.class_model.specs.Sound.{AreSound}
 use Rattle.plain_machine.specs.Plain.{Datum, AnObject, AClass, ANumber, AText, ATuple, AList, ADict, AFunction, AMethod, ANativeFunction, ABuiltinMethod, AMethodDescriptor, AGetSet, AClassMethod, AStaticMethod, AMember, AProperty, ASuper, AnIterator, ASlice, Node, Bindings, Scope, PlainWorld}
 use Rattle.plain_machine.specs.World.{is_text, ref, datum_at, has_dict}
 use Rattle.plain_machine.specs.Objects.{nearest_built_in, class_number}

@@ -1,17 +1,7 @@
 -- The world of a new machine: a node for each built-in class, then None, NotImplemented, False and True, and then a node for each own attribute of a built-in class but None.
-use Rattle.std.specs.Prelude.{ℕ, pos, Bool, true, false, cond, List, [], ◌∷◌, ◌++◌, Some, None, map, fold}
-use Rattle.py_node.specs.declared.built_in.BuiltIn.{BuiltIn}
+use Rattle.plain_machine.specs.Below.{ℕ, pos, Bool, true, false, cond, List, [], Some, None, map, fold, BuiltIn, Getter, Setter, GetterOf, SetterOf, NewWrapper, Known, Attr, New, Method, ClassMethod, ReadOnly, Settable, Part, SettablePart, NoHash, place_of, all_built_ins, fixed_none, known_text, own_attrs, PyObjectRef, Text, built_in_classes}
+use Rattle.std.specs.Prelude.{◌∷◌, ◌++◌}
 use Rattle.py_node.specs.declared.built_in.BuiltIn.TheVariants as built_in
-use Rattle.py_node.specs.declared.entry.NativeEntry.TheVariants.{Getter, Setter, GetterOf, SetterOf, NewWrapper}
-use Rattle.py_node.specs.declared.known.Known.{Known}
-use Rattle.py_node.specs.declared.attr.Attr.{Attr}
-use Rattle.py_node.specs.declared.attr.Attr.TheVariants.{New, Method, ClassMethod, ReadOnly, Settable, Part, SettablePart, NoHash}
-use Rattle.py_node.specs.BuiltIns.{place_of, all_built_ins, fixed_none}
-use Rattle.py_node.specs.Known.{known_text}
-use Rattle.py_node.specs.OwnAttrs.{own_attrs}
-use Rattle.py_node.specs.declared.refs.PyObjectRef.{PyObjectRef}
-use Rattle.py_node.specs.Tree.{Text}
-use Rattle.class_model.specs.Start.{built_in_classes}
 use Rattle.plain_machine.specs.Known.{the_type, the_none_type, the_not_implemented_type, the_bool}
 use Rattle.plain_machine.specs.Plain.{Datum, AnObject, AClass, ANumber, ANativeFunction, AMethodDescriptor, AGetSet, no_members, Node, PlainWorld}
 use Rattle.plain_machine.specs.World.{ref, with_node, next_node, with_own_attr}

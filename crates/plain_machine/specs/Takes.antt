@@ -1,8 +1,6 @@
 -- What a native takes: so many arguments and no keyword, in the one order in which that is tested.
-use Rattle.std.specs.Prelude.{List, [], ◌∷◌, Option, Some, Ok}
-use Rattle.py_node.specs.declared.refs.PyObjectRef.{PyObjectRef}
-use Rattle.py_node.specs.declared.raised.Cause.TheVariants.{ArgCount, SelfType, UnexpectedKeyword}
-use Rattle.py_node.specs.Tree.{Text}
+use Rattle.plain_machine.specs.Below.{List, [], Option, Some, Ok, PyObjectRef, ArgCount, SelfType, UnexpectedKeyword, Text}
+use Rattle.std.specs.Prelude.{◌∷◌}
 use Rattle.plain_machine.specs.Plain.{Datum, AText, ANumber, PlainWorld, Bindings, AsDone, AsNumber, Ended, Said, Ends}
 use Rattle.plain_machine.specs.Known.{the_int}
 use Rattle.plain_machine.specs.World.{datum_at}

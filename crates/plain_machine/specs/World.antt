@@ -1,18 +1,6 @@
 -- How the plain world is read and changed.
-use Rattle.std.specs.Prelude.{ℕ, zero, suc, ℤ, ◌+◌, ◌-◌, Bool, false, eqb, cond, List, [], ◌∷◌, ◌++◌, Option, Some, None, length, take, slice_get, option_map, option_and_then}
-use Rattle.std.specs.Cmp.Lexicographic.{pointwise}
-use Rattle.py_node.specs.declared.refs.PyObjectRef.{PyObjectRef}
-use Rattle.py_node.specs.declared.entry.SlotId.{SlotId}
-use Rattle.py_node.specs.declared.entry.SlotEntry.{SlotEntry}
-use Rattle.py_node.specs.Attributes.{value_of, with_value}
-use Rattle.py_node.specs.Known.{known_text}
-use Rattle.py_node.specs.Tree.{Text}
-use Rattle.py_node.specs.Replies.{Started}
-use Rattle.class_model.specs.Class.{Class}
-use Rattle.class_model.specs.Dict.{has_dict as class_has_dict}
-use Rattle.class_model.specs.Change.{with_class, with_class_attr}
-use Rattle.class_model.specs.Slot.{Keys, slot, candidates_of, goes_first}
-use Rattle.class_model.specs.BuiltIn.{natives_of}
+use Rattle.plain_machine.specs.Below.{ℕ, zero, suc, ℤ, Bool, false, eqb, cond, List, [], Option, Some, None, length, take, slice_get, option_map, option_and_then, pointwise, PyObjectRef, SlotId, SlotEntry, value_of, with_value, known_text, Text, Started, Class, has_dict as class_has_dict, with_class, with_class_attr, Keys, slot, candidates_of, goes_first, natives_of}
+use Rattle.std.specs.Prelude.{◌+◌, ◌-◌, ◌∷◌, ◌++◌}
 use Rattle.plain_machine.specs.Known.{the_dict}
 use Rattle.plain_machine.specs.Plain.{Datum, AClass, ADict, ANumber, no_members, Node, Bindings, Scope, PlainWorld}
 

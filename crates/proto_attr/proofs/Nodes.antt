@@ -1,9 +1,6 @@
 -- Arguments that are nodes.
-use Rattle.std.proofs.Common.{ℕ, zero, suc, ◌<◌, List, [], ◌∷◌, ◌++◌, length, get_or, arith}
-use Rattle.py_node.specs.declared.refs.PyObjectRef.{PyObjectRef}
-use Rattle.class_world.specs.Held.{Held}
-use Rattle.class_world.specs.Sound.{Claim, IsNode, AreNodes, Holds, AllHold}
-use Rattle.class_world.proofs.Claims.{all-append}
+use Rattle.proto_attr.proofs.Below.{ℕ, zero, suc, List, [], length, get_or, arith, PyObjectRef, Held, Claim, IsNode, AreNodes, Holds, AllHold, all-append}
+use Rattle.std.proofs.Common.{◌<◌, ◌∷◌, ◌++◌}
 
 -- a node before the others
 pub first-node : (w : Held) (r : PyObjectRef) (rs : List PyObjectRef) → Holds w (IsNode r) → Holds w (AreNodes rs) → Holds w (AreNodes (r ∷ rs))

@@ -1,17 +1,7 @@
 -- The row that reads an attribute, where its special method found none.
-use Rattle.std.proofs.Common.{◌≡◌, cond, codes, [], ◌∷◌, None, Err, ap}
-use Rattle.py_node.specs.declared.refs.PyObjectRef.{PyObjectRef}
-use Rattle.py_node.specs.declared.raised.Raised.{Raised as Fault}
-use Rattle.py_node.specs.declared.raised.Kind.TheVariants.{AttributeError}
-use Rattle.py_node.specs.Tree.{Text}
+use Rattle.proto_attr.proofs.Below.{cond, codes, [], None, Err, ap, PyObjectRef, Raised as Fault, AttributeError, Text, known_text, PlainWorld, DoGetAttr, DoBind, Answered, Chose, Told, special_at, start, end, is_attribute_error, Alike, ref, attribute_say, or_get_attr}
+use Rattle.std.proofs.Common.{◌≡◌, ◌∷◌}
 use Rattle.py_node.specs.declared.known.Known.TheVariants as known
-use Rattle.py_node.specs.Known.{known_text}
-use Rattle.plain_machine.specs.Plain.{PlainWorld, DoGetAttr, DoBind, Answered, Chose, Told}
-use Rattle.plain_machine.specs.Objects.{special_at}
-use Rattle.plain_machine.specs.Row.{start, end, is_attribute_error}
-use Rattle.plain_machine.specs.Rows.{Alike}
-use Rattle.plain_machine.specs.World.{ref}
-use Rattle.proto_attr.specs.Say.{attribute_say, or_get_attr}
 
 module _ (o : PyObjectRef) (x : Text) (fault : Fault) (kind : fault.kind ≡ AttributeError) where
   abbrev pub told : Told

@@ -1,15 +1,8 @@
 -- Who wins where an object is asked for an attribute.
-use Rattle.std.proofs.Common.{◌≡◌, Bool, true, false, ◌&&◌, Option, Some, None, refl, ap, ◌∙◌}
-use Rattle.std.specs.Prelude.{is_some}
-use Rattle.py_node.specs.declared.refs.PyObjectRef.{PyObjectRef}
-use Rattle.py_node.specs.declared.entry.SlotId.TheVariants.{DescrGet, DescrSet}
-use Rattle.plain_machine.specs.Plain.{PlainWorld}
-use Rattle.plain_machine.specs.World.{slot_at}
-use Rattle.plain_machine.specs.Objects.{special_at}
-use Rattle.plain_machine.specs.Dicts.{own_value}
-use Rattle.proto_attr.specs.declared.find.Found.TheVariants.{Descriptor, Value}
-use Rattle.proto_attr.specs.Say.{attribute_say, find, generic_by, generic_opt_by, value_for}
-use Rattle.proto_attr.specs.Laws.{Gets, Sets, GetterAndSetterWins, DictIsNext, ClassIsLast, NeitherHasIt, AnswerIsGiven}
+use Rattle.proto_attr.proofs.Below.{Bool, true, false, Option, Some, None, refl, ap, ◌∙◌, is_some, PyObjectRef, DescrSet, PlainWorld, slot_at, special_at, own_value, Descriptor, attribute_say, find, generic_by, generic_opt_by, value_for, Gets, Sets, GetterAndSetterWins, DictIsNext, ClassIsLast, NeitherHasIt, AnswerIsGiven}
+use Rattle.std.proofs.Common.{◌≡◌, ◌&&◌}
+use Rattle.py_node.specs.declared.entry.SlotId.TheVariants.{DescrGet}
+use Rattle.proto_attr.specs.declared.find.Found.TheVariants.{Value}
 
 -- what is found
 data-found : (w : PlainWorld) (a : PyObjectRef) (own : Option PyObjectRef) → Gets w a → Sets w a → find w (Some a) own ≡ Descriptor a

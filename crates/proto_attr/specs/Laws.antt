@@ -1,14 +1,6 @@
 -- Who wins where an object is asked for an attribute: what its class has under the name, or what a dict has.
-use Rattle.std.specs.Prelude.{◌≡◌, true, [], ◌∷◌, Option, Some, None, is_some}
-use Rattle.py_node.specs.declared.refs.PyObjectRef.{PyObjectRef}
-use Rattle.py_node.specs.declared.entry.SlotId.TheVariants.{DescrGet, DescrSet}
-use Rattle.py_node.specs.declared.raised.Cause.TheVariants.{NoAttribute}
-use Rattle.py_node.specs.Tree.{Text}
-use Rattle.plain_machine.specs.Plain.{PlainWorld, AttributeJob, DoGeneric, DoGenericOpt, DoDescrGet, ToDescriptor, Ended, Answered, Asks, Ends}
-use Rattle.plain_machine.specs.World.{slot_at}
-use Rattle.plain_machine.specs.Objects.{type_object, special_at}
-use Rattle.plain_machine.specs.Dicts.{own_value}
-use Rattle.plain_machine.specs.Row.{value, fault}
+use Rattle.proto_attr.specs.Below.{true, [], Option, Some, None, is_some, PyObjectRef, DescrGet, DescrSet, NoAttribute, Text, PlainWorld, AttributeJob, DoGeneric, DoGenericOpt, DoDescrGet, ToDescriptor, Ended, Answered, Asks, Ends, slot_at, type_object, special_at, own_value, value, fault}
+use Rattle.std.specs.Prelude.{◌≡◌, ◌∷◌}
 use Rattle.proto_attr.specs.Say.{attribute_say, maybe, value_for}
 
 -- a row begins by asking a value of the class what it gives for an object of that class

@@ -1,18 +1,7 @@
 -- What the contracts of the rows of attributes say.
-use Rattle.std.specs.Prelude.{List, [], ◌∷◌, Result, None}
-use Rattle.py_node.specs.declared.raised.Raised.{Raised as Fault}
-use Rattle.py_node.specs.declared.task.Answer.{Answer}
-use Rattle.py_node.specs.declared.task.AttributeTask.{AttributeTask}
-use Rattle.py_node.specs.declared.task.Step.{Step}
-use Rattle.plain_machine.specs.Plain.{PlainWorld, AttributeJob, DoGetAttr, DoGenericOpt, DoLoadMethod, DoHasAttr, DoSpecial, DoBind, Chose, Said}
-use Rattle.plain_machine.specs.Rows.{Pending}
-use Rattle.plain_machine.specs.World.{ref}
-use Rattle.class_world.specs.declared.world.World.{World}
-use Rattle.class_world.specs.Reading.{Reading, attribute_job, bindings, spelled}
+use Rattle.proto_attr.specs.Below.{List, [], Result, None, Raised as Fault, Answer, AttributeTask, Step, PlainWorld, AttributeJob, DoGetAttr, DoGenericOpt, DoLoadMethod, DoHasAttr, DoSpecial, DoBind, Chose, Said, Pending, ref, World, Reading, attribute_job, bindings, spelled, Group, Claim, IsNode, IsName, of_args}
+use Rattle.std.specs.Prelude.{◌∷◌}
 use Rattle.class_world.specs.Rows as rows
-use Rattle.class_world.specs.Rows.{Group}
-use Rattle.class_world.specs.Sound.{Claim, IsNode, IsName}
-use Rattle.class_world.specs.Claims.{of_args}
 use Rattle.proto_attr.specs.declared.AttributeKept.{AttributeKept}
 use Rattle.proto_attr.specs.declared.AttributeKept.TheVariants.{Pass, AfterBind, GetAttr, HasAttr, Maybe, Method}
 use Rattle.proto_attr.specs.declared.find.Found.{Found}

@@ -1,30 +1,13 @@
 -- What the rows of attributes and special methods say.
-use Rattle.std.specs.Prelude.{ℕ, zero, suc, Bool, true, false, cond, eqb, not, ◌&&◌, List, [], ◌∷◌, Option, Some, None, Ok, Err, is_some}
-use Rattle.py_node.specs.declared.refs.PyObjectRef.{PyObjectRef}
-use Rattle.py_node.specs.declared.raised.Raised.{Raised as Fault}
-use Rattle.py_node.specs.declared.raised.Cause.TheVariants.{ImmutableType, NoAttribute, NoSpecial, TooLong}
-use Rattle.py_node.specs.declared.entry.SlotId.TheVariants.{Getattro, Setattro, DescrGet, DescrSet}
-use Rattle.py_node.specs.declared.entry.SlotEntry.{SlotEntry}
-use Rattle.py_node.specs.declared.entry.SlotEntry.TheVariants.{Native, Wrapper}
-use Rattle.py_node.specs.declared.entry.NativeEntry.TheVariants.{OfObject, OfType, OfSuper}
+use Rattle.proto_attr.specs.Below.{ℕ, zero, suc, Bool, true, false, cond, eqb, not, List, [], Option, Some, None, Ok, Err, is_some, PyObjectRef, Raised as Fault, ImmutableType, NoAttribute, NoSpecial, TooLong, Getattro, Setattro, DescrGet, DescrSet, SlotEntry, Native, Wrapper, OfObject, OfType, OfSuper, Text, known_text, found, own_of, is_heap_at, AText, PlainWorld, Bindings, PlainTask, AttributeJob, DoGetAttr, DoGeneric, DoGenericOpt, DoTypeGet, DoLoadMethod, DoInvoke, DoSetAttr, DoGenericSet, DoTypeSet, DoSpecial, DoBind, DoDescrGet, DoDescrSet, DoHasAttr, DoSuperGet, DoCall, ToAttribute, ToDescriptor, ToCall, AsMaybe, AsTruth, AsFunction, AsAttribute, Ended, Chose, Said, Asks, Ends, is_text, datum_at, slot_at, with_node, next_node, with_own_attr, without_own_attr, class_object, type_object, class_number, special_at, is_fast, dict_of, has_place, value_in, own_value, with_value_in, without_value_in, the_str, Row, start, fork, ask, pass, end, value, done, none, fault, is_attribute_error, on_value}
+use Rattle.std.specs.Prelude.{◌&&◌, ◌∷◌}
 use Rattle.py_node.specs.declared.entry.ObjectNative.TheVariants as object
 use Rattle.py_node.specs.declared.entry.SuperNative.TheVariants as super
 use Rattle.py_node.specs.declared.entry.TypeNative.TheVariants as type
-use Rattle.py_node.specs.Tree.{Text}
 use Rattle.py_node.specs.declared.known.Known.TheVariants as known
-use Rattle.py_node.specs.Known.{known_text}
 use Rattle.proto_attr.specs.declared.find.Found.{Found}
 use Rattle.proto_attr.specs.declared.find.Found.TheVariants.{Descriptor, Value, Missing}
-use Rattle.class_model.specs.Class.{class_at as class_numbered, found, own_of}
-use Rattle.class_model.specs.Slot.{is_heap_at}
-use Rattle.plain_machine.specs.Plain.{AText, PlainWorld, Bindings, PlainTask, AttributeJob, DoGetAttr, DoGeneric, DoGenericOpt, DoTypeGet, DoLoadMethod, DoInvoke, DoSetAttr, DoGenericSet, DoTypeSet, DoSpecial, DoBind, DoDescrGet, DoDescrSet, DoHasAttr, DoSuperGet, DoCall}
-use Rattle.plain_machine.specs.Plain.{ToAttribute, ToDescriptor, ToCall, AsMaybe, AsTruth, AsFunction, AsAttribute, Ended, Chose, Said, Asks, Ends}
-use Rattle.plain_machine.specs.World.{is_text, datum_at, slot_at, with_node, next_node, with_own_attr}
-use Rattle.plain_machine.specs.Change.{without_own_attr}
-use Rattle.plain_machine.specs.Objects.{class_object, type_object, class_number, special_at, is_fast}
-use Rattle.plain_machine.specs.Dicts.{dict_of, has_place, value_in, own_value, with_value_in, without_value_in}
-use Rattle.plain_machine.specs.Known.{the_str}
-use Rattle.plain_machine.specs.Row.{Row, start, fork, ask, pass, end, value, done, none, fault, is_attribute_error, on_value}
+use Rattle.class_model.specs.Class.{class_at as class_numbered}
 
 -- a special method is given a name as a new text
 abbrev pub with_text : PlainWorld → Text → PlainWorld

@@ -1,8 +1,7 @@
 //! How a value that was found is bound.
 #![tactic(auto, unfolding(crate::specs::Say::attribute_say))]
 
-ghost use Rattle.class_world.specs.Sound.{AllHold};
-ghost use Rattle.class_world.specs.Claims.{of_attribute_task, of_step};
+ghost use Rattle.proto_attr.specs.Below.{AllHold, of_attribute_task, of_step};
 ghost use Rattle.py_node.specs.declared.task.AttributeTask.TheVariants as attribute;
 ghost use Rattle.proto_attr.specs.Rows.{Begins, of_attribute_kept};
 

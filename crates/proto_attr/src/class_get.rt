@@ -1,9 +1,7 @@
 //! How classes read attributes.
 #![tactic(auto, unfolding(crate::specs::Say::attribute_say))]
 
-ghost use Rattle.class_world.specs.Sound.{AllHold, Holds, IsNode};
-ghost use Rattle.class_world.specs.Claims.{of_attribute_task, of_step};
-ghost use Rattle.plain_machine.specs.Objects.{class_object};
+ghost use Rattle.proto_attr.specs.Below.{AllHold, Holds, IsNode, of_attribute_task, of_step, class_object};
 ghost use Rattle.py_node.specs.declared.task.AttributeTask.TheVariants as attribute;
 ghost use Rattle.proto_attr.specs.Say.{of_class, generic_by, of_value};
 ghost use Rattle.proto_attr.specs.Rows.{Begins, Starts, of_attribute_kept};

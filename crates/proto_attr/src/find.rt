@@ -2,8 +2,7 @@
 #![tactic(auto)]
 
 ghost use Rattle.std.specs.Prelude.{◌≡◌};
-ghost use Rattle.class_world.specs.Reading.{Reading, Reads, plain};
-ghost use Rattle.class_world.specs.Sound.{AllHold, Claim, Holds, IsNode, of_option, of_node_ref};
+ghost use Rattle.proto_attr.specs.Below.{Reading, Reads, plain, AllHold, Claim, Holds, IsNode, of_option, of_node_ref};
 ghost use Rattle.proto_attr.specs.Say.{gives, is_data, of_value, find};
 ghost use Rattle.proto_attr.specs.Rows.{of_found};
 

@@ -1,13 +1,8 @@
 //! How objects and classes read attributes.
 #![tactic(auto, unfolding(crate::specs::Say::attribute_say))]
 
-ghost use Rattle.std.specs.Prelude.{◌≡◌, Some, Err};
-ghost use Rattle.py_node.specs.Faults.{raised};
-ghost use Rattle.class_world.specs.Sound.{AllHold, Holds, IsNode, of_option, of_node_ref};
-ghost use Rattle.class_world.specs.Claims.{of_attribute_task, of_step, of_task};
-ghost use Rattle.class_world.specs.Reading.{Reading, Reads, plain, task_of};
-ghost use Rattle.plain_machine.specs.Objects.{type_object};
-ghost use Rattle.plain_machine.specs.Plain.{ToDescriptor, DoDescrGet};
+ghost use Rattle.proto_attr.specs.Below.{Some, Err, raised, AllHold, Holds, IsNode, of_option, of_node_ref, of_attribute_task, of_step, of_task, Reading, Reads, plain, task_of, type_object, ToDescriptor, DoDescrGet};
+ghost use Rattle.std.specs.Prelude.{◌≡◌};
 ghost use Rattle.py_node.specs.declared.task.AttributeTask.TheVariants as attribute;
 ghost use Rattle.proto_attr.specs.Say.{value_for};
 ghost use Rattle.proto_attr.specs.Rows.{Begins, of_attribute_kept};

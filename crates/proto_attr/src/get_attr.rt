@@ -1,10 +1,8 @@
 //! How an object's attribute is read.
 #![tactic(auto, unfolding(crate::specs::Say::attribute_say))]
 
-ghost use Rattle.std.specs.Prelude.{◌≡◌, Err, IfOk};
-ghost use Rattle.class_world.specs.Sound.{AllHold};
-ghost use Rattle.class_world.specs.Claims.{of_attribute_task, of_ended, of_step, Leaves};
-ghost use Rattle.class_world.specs.Reading.{spelled};
+ghost use Rattle.proto_attr.specs.Below.{Err, IfOk, AllHold, of_attribute_task, of_ended, of_step, Leaves, spelled};
+ghost use Rattle.std.specs.Prelude.{◌≡◌};
 ghost use Rattle.py_node.specs.declared.task.AttributeTask.TheVariants as attribute;
 ghost use Rattle.proto_attr.specs.declared.AttributeKept.TheVariants as kept;
 ghost use Rattle.proto_attr.specs.Say.{get_by_method};

@@ -1,17 +1,14 @@
-//! The rows of attributes and special methods, each a small automaton: `begin` and
-//! `resume`.
+//! Attributes, and what gives and takes them.
+//!
+//! At the root: the rows of attributes and special methods, each a small automaton: `begin` and `resume`.
 #![tactic(auto, unfolding(crate::specs::Say::attribute_say))]
 
-ghost use Rattle.std.specs.Prelude.{◌≡◌, Some, IfOk};
-ghost use Rattle.plain_machine.specs.Plain.{PlainWorld, Told, Ends};
-ghost use Rattle.plain_machine.specs.Row.{end, on_value};
-ghost use Rattle.class_world.specs.Held.{Held};
-ghost use Rattle.class_world.specs.Reading.{ended_of};
+ghost use Rattle.proto_attr.specs.Below.{Some, IfOk, PlainWorld, Told, Ends, end, on_value, Held, ended_of, AllHold, of_attribute_task, of_ended, Leaves};
+ghost use Rattle.std.specs.Prelude.{◌≡◌};
 ghost use Rattle.proto_attr.specs.Say.{maybe, not_none, as_attribute};
-ghost use Rattle.class_world.specs.Sound.{AllHold};
-ghost use Rattle.class_world.specs.Claims.{of_attribute_task, of_ended, Leaves};
 ghost use Rattle.proto_attr.specs.Rows.{Begins, Resumes, of_attribute_kept};
 
+pub mod accessors;
 mod binding;
 mod class_get;
 pub mod find;
@@ -20,7 +17,12 @@ mod get_attr;
 pub mod laws;
 mod load;
 mod named;
+pub mod native_calls;
+pub mod native_defs;
+pub mod native_details;
+pub mod native_objects;
 mod object_set;
+pub mod proto_descr;
 mod setting;
 mod special;
 

@@ -1,14 +1,8 @@
 //! How methods are loaded, and called.
 #![tactic(auto, unfolding(crate::specs::Say::attribute_say))]
 
-ghost use Rattle.std.specs.Prelude.{◌≡◌, Ok, IfOk};
-ghost use Rattle.class_world.specs.Sound.{AllHold, Holds, IsNode, of_option, of_node_ref};
-ghost use Rattle.class_world.specs.Claims.{of_attribute_task, of_answer, of_step};
-ghost use Rattle.class_world.specs.Reading.{spelled, answer_of};
-ghost use Rattle.class_world.specs.Held.{Held};
-ghost use Rattle.plain_machine.specs.Plain.{PlainWorld, Ends};
-ghost use Rattle.plain_machine.specs.Objects.{special_at};
-ghost use Rattle.plain_machine.specs.Dicts.{own_value};
+ghost use Rattle.proto_attr.specs.Below.{Ok, IfOk, AllHold, Holds, IsNode, of_option, of_node_ref, of_attribute_task, of_answer, of_step, spelled, answer_of, Held, PlainWorld, Ends, special_at, own_value};
+ghost use Rattle.std.specs.Prelude.{◌≡◌};
 ghost use Rattle.py_node.specs.declared.task.AttributeTask.TheVariants as attribute;
 ghost use Rattle.proto_attr.specs.Say.{load_by, load_found, load_fast};
 ghost use Rattle.proto_attr.specs.Rows.{Begins, Starts, of_attribute_kept, of_found};

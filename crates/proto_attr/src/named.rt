@@ -1,10 +1,8 @@
 //! Special methods that are given a name as a new text.
 #![tactic(auto, unfolding(py_node::specs::BuiltIns::place_of))]
 
-ghost use Rattle.std.specs.Prelude.{◌≡◌, IfOk, OnOk};
-ghost use Rattle.class_world.specs.Claims.{of_task};
-ghost use Rattle.class_world.specs.Reading.{Reading, Reads, plain, spelled, task_of};
-ghost use Rattle.class_world.specs.Sound.{AllHold, Grows, Holds, IsName, IsNode};
+ghost use Rattle.proto_attr.specs.Below.{IfOk, OnOk, of_task, Reading, Reads, plain, spelled, task_of, AllHold, Grows, Holds, IsName, IsNode};
+ghost use Rattle.std.specs.Prelude.{◌≡◌};
 ghost use Rattle.proto_attr.specs.Say.{with_text, by_name};
 
 use class_world::World;

@@ -1,11 +1,7 @@
 //! How objects set and take out attributes.
 #![tactic(auto, unfolding(crate::specs::Say::attribute_say))]
 
-ghost use Rattle.std.specs.Prelude.{IfOk};
-ghost use Rattle.class_world.specs.Sound.{AllHold};
-ghost use Rattle.class_world.specs.Claims.{of_attribute_task, Leaves};
-ghost use Rattle.class_world.specs.Reading.{spelled, setter_value};
-ghost use Rattle.plain_machine.specs.Dicts.{dict_of, own_value};
+ghost use Rattle.proto_attr.specs.Below.{IfOk, AllHold, of_attribute_task, Leaves, spelled, setter_value, dict_of, own_value};
 ghost use Rattle.py_node.specs.declared.task.AttributeTask.TheVariants as attribute;
 ghost use Rattle.proto_attr.specs.Say.{set_in_dict};
 ghost use Rattle.proto_attr.specs.Rows.{Begins, Starts, of_attribute_kept};

@@ -1,12 +1,9 @@
 //! How attributes are set and taken out.
 #![tactic(auto, unfolding(crate::specs::Say::attribute_say, py_node::specs::BuiltIns::place_of))]
 
-ghost use Rattle.std.specs.Prelude.{◌≡◌, Some, IfOk};
+ghost use Rattle.proto_attr.specs.Below.{Some, IfOk, is_heap_at, AllHold, of_option, of_node_ref, of_attribute_task, Leaves, Reading, Reads, plain, spelled, setter_value};
+ghost use Rattle.std.specs.Prelude.{◌≡◌};
 ghost use Rattle.class_model.specs.Class.{class_at as class_numbered};
-ghost use Rattle.class_model.specs.Slot.{is_heap_at};
-ghost use Rattle.class_world.specs.Sound.{AllHold, of_option, of_node_ref};
-ghost use Rattle.class_world.specs.Claims.{of_attribute_task, Leaves};
-ghost use Rattle.class_world.specs.Reading.{Reading, Reads, plain, spelled, setter_value};
 ghost use Rattle.py_node.specs.declared.task.AttributeTask.TheVariants as attribute;
 ghost use Rattle.proto_attr.specs.Say.{set_by_method, setter, own_set};
 ghost use Rattle.proto_attr.specs.Rows.{Begins, Starts, of_attribute_kept};

@@ -1,9 +1,8 @@
 //! How special methods are called.
 #![tactic(auto, unfolding(crate::specs::Say::attribute_say))]
 
-ghost use Rattle.std.specs.Prelude.{◌≡◌, ◌∷◌, IfOk};
-ghost use Rattle.class_world.specs.Sound.{AllHold, Holds, IsNode, AreNodes};
-ghost use Rattle.class_world.specs.Claims.{of_attribute_task, of_step};
+ghost use Rattle.proto_attr.specs.Below.{IfOk, AllHold, Holds, IsNode, AreNodes, of_attribute_task, of_step};
+ghost use Rattle.std.specs.Prelude.{◌≡◌, ◌∷◌};
 ghost use Rattle.py_node.specs.declared.task.AttributeTask.TheVariants as attribute;
 ghost use Rattle.proto_attr.specs.Rows.{Begins, of_attribute_kept};
 

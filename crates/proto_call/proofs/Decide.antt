@@ -1,22 +1,6 @@
 -- What was read stands in what is decided.
-use Rattle.std.proofs.Common.{◌≡◌, ℕ, zero, suc, ◌<◌, List, [], ◌∷◌, length, get_or, Result, Ok, Err, IfOk, refl, sym, subst, arith}
-use Rattle.py_node.specs.declared.raised.Raised.{Raised as Fault}
-use Rattle.py_node.specs.declared.task.Answer.{Answer}
-use Rattle.py_node.specs.declared.task.Step.TheVariants.{End}
-use Rattle.py_node.specs.declared.refs.PyObjectRef.{PyObjectRef}
-use Rattle.py_node.specs.declared.entry.ObjectNative.{ObjectNative}
-use Rattle.py_node.specs.declared.task.Step.{Step}
-use Rattle.py_node.specs.declared.memory.OutOfMemory.{OutOfMemory}
-use Rattle.plain_machine.specs.Plain.{PlainWorld, CallJob, DoObject, Said}
-use Rattle.plain_machine.specs.Rows.{Pending, fresh}
-use Rattle.class_world.specs.declared.world.World.{World}
-use Rattle.class_world.specs.Held.{Held}
-use Rattle.class_world.specs.Reading.{Reading, Reads, plain}
-use Rattle.class_world.specs.Rows.{EndsAs, Steps, Follows}
-use Rattle.class_world.specs.Sound.{IsNode, AreNodes, Holds}
-use Rattle.proto_call.specs.declared.CallKept.{CallKept}
-use Rattle.proto_call.specs.Say.{call_job_say}
-use Rattle.proto_call.specs.Rows.{call_stands, Closes, Does}
+use Rattle.proto_call.proofs.Below.{ℕ, zero, suc, List, [], length, get_or, Ok, Err, refl, sym, subst, arith, Raised as Fault, Answer, End, PyObjectRef, ObjectNative, Step, OutOfMemory, PlainWorld, CallJob, DoObject, Said, Pending, fresh, World, Held, Reading, Reads, plain, EndsAs, Steps, Follows, IsNode, AreNodes, Holds, CallKept, call_job_say, call_stands, Closes, Does}
+use Rattle.std.proofs.Common.{◌≡◌, ◌<◌, ◌∷◌, Result, IfOk}
 
 -- a decision by the value that was read is one by what the plain world has
 pub by-read : {A : Type 0} (p : Reading → Pending CallJob) (F : Reading → PlainWorld → A → Said) (read : Reading → PlainWorld → A) (value : A) (old new : World) (step : Step CallKept) → ((t : Reading) → Reads t old → read t (plain t old) ≡ value) → Follows call_job_say call_stands p (λ t u. F t u value) old new step → Follows call_job_say call_stands p (λ t u. F t u (read t u)) old new step

@@ -1,30 +1,8 @@
 -- The steps of the row of a body are what the row says.
-use Rattle.std.proofs.Common.{◌≡◌, ℕ, zero, suc, true, false, cond, List, [], ◌∷◌, length, get_or, map, Option, Some, None, IfSome, refl, sym, ap, ◌∙◌, subst, arith, rules, tests}
+use Rattle.proto_call.proofs.Below.{ℕ, zero, suc, true, false, cond, List, [], length, get_or, map, Option, Some, None, refl, sym, ap, ◌∙◌, subst, arith, rules, tests, Vec, PyObjectRef, PyStrInterned, Function, ArgCount, TooLong, Step, value_of, with_value, is_same_name, Text, ATuple, PlainWorld, DoBody, Said, Ends, datum_at, is_text, with_node, next_node, fault, World, Held, Reading, Reads, spelled, bindings, plain, Steps, IsNode, Holds, AllHold, of_option, of_node_ref, value-read, CallKept, call_job_say, is_empty, but_last, last_of, left_over, rest_fits, single, with_keywords, all_filled, when_filled, by_keywords, by_place, body_by, value_text, shown, the_tuple, filled, call_stands, Begins, Enters, RunsAs, datum_of, opened_of, by_keywords_of, by_place_of}
+use Rattle.std.proofs.Common.{◌≡◌, ◌∷◌, IfSome}
 use Rattle.std.specs.Prelude.{◌==◌}
-use Rattle.std.specs.Global.{Vec}
-use Rattle.py_node.specs.declared.refs.PyObjectRef.{PyObjectRef}
-use Rattle.py_node.specs.declared.refs.PyStrInterned.{PyStrInterned}
-use Rattle.py_node.specs.declared.payload.Function.{Function}
-use Rattle.py_node.specs.declared.raised.Cause.TheVariants.{ArgCount, TooLong}
 use Rattle.py_node.specs.declared.task.CallTask.TheVariants as call
-use Rattle.py_node.specs.declared.task.Step.{Step}
-use Rattle.py_node.specs.Attributes.{value_of, with_value, is_same_name}
-use Rattle.py_node.specs.Tree.{Text}
-use Rattle.plain_machine.specs.Plain.{ATuple, PlainWorld, DoBody, Said, Ends}
-use Rattle.plain_machine.specs.World.{datum_at, is_text, with_node, next_node}
-use Rattle.plain_machine.specs.Row.{fault}
-use Rattle.class_world.specs.declared.world.World.{World}
-use Rattle.class_world.specs.Held.{Held}
-use Rattle.class_world.specs.Reading.{Reading, Reads, spelled, bindings, plain}
-use Rattle.class_world.specs.Rows.{Steps}
-use Rattle.class_world.specs.Sound.{IsNode, Holds, AllHold, of_option, of_node_ref}
-use Rattle.class_world.proofs.Bound.{value-read}
-use Rattle.proto_call.specs.declared.CallKept.{CallKept}
-use Rattle.proto_call.specs.Say.{call_job_say, is_empty, but_last, last_of, left_over, rest_fits, single, with_keywords, all_filled, when_filled, by_keywords, by_place, body_by, value_text, shown}
-use Rattle.plain_machine.specs.Known.{the_tuple}
-use Rattle.plain_machine.specs.Args.{filled}
-use Rattle.proto_call.specs.Rows.{call_stands, Begins}
-use Rattle.proto_call.specs.Bodies.{Enters, RunsAs, datum_of, opened_of, by_keywords_of, by_place_of}
 
 -- what is decided in a later world follows for the earlier one, where it is the same there
 pub enters-by : (said other : Reading → PlainWorld → Said) (old mid new : World) (step : Step CallKept) → ((t : Reading) → Reads t mid → Reads t old) → ((t : Reading) → Reads t mid → said t (plain t mid) ≡ other t (plain t old)) → Enters said mid new step → Enters other old new step

@@ -1,22 +1,7 @@
 -- How arguments fill parameters, as a reading has them.
-use Rattle.std.proofs.Common.{◌≡◌, ℕ, zero, suc, ◌-◌, ◌<◌, ◌≤◌, Bool, true, false, cond, not, ◌&&◌, ◌||◌, List, [], ◌∷◌, length, take, drop, min, get_or, map, Option, Some, None, is_some, is_none, IfSome, refl, sym, ap, ◌∙◌, subst, arith}
-use Rattle.std.specs.List.{All, list_any, list_all}
-use Rattle.std.specs.Prelude.{IsTrue}
-use Rattle.std.proofs.lemmas.Bool.{eq-eqb}
-use Rattle.std.proofs.lemmas.List.Elements.{All-take, All-drop}
-use Rattle.py_node.specs.declared.refs.PyObjectRef.{PyObjectRef}
-use Rattle.py_node.specs.declared.refs.PyStrInterned.{PyStrInterned}
-use Rattle.py_node.specs.Attributes.{value_of, with_value, is_same_name}
-use Rattle.py_node.specs.Tree.{Text}
-use Rattle.plain_machine.specs.Plain.{Bindings}
-use Rattle.plain_machine.specs.World.{is_text}
-use Rattle.class_world.specs.Held.{Held}
-use Rattle.class_world.specs.Reading.{Reading, spelled, bindings}
-use Rattle.class_world.specs.Sound.{IsName, AreNames, IsNode, AreNodes, HasParams, HasValues, has_value, AreFilled, Holds, AllHold, of_binding, of_each}
-use Rattle.class_world.proofs.Apart.{all-cons, all-tail}
-use Rattle.class_world.proofs.Bound.{value-read, with_value-read}
-use Rattle.proto_call.specs.Bodies.{last_in, LastFilled}
-use Rattle.proto_call.specs.Say.{but_last, single, left_over, is_member, value_at, with_keywords, all_filled}
+use Rattle.proto_call.proofs.Below.{ℕ, zero, suc, Bool, true, false, cond, not, List, [], length, take, drop, min, get_or, map, Option, Some, None, is_none, refl, sym, ap, ◌∙◌, subst, arith, All, list_any, list_all, IsTrue, eq-eqb, All-take, All-drop, PyObjectRef, PyStrInterned, value_of, with_value, is_same_name, Text, Bindings, is_text, Held, Reading, spelled, bindings, IsName, AreNames, IsNode, AreNodes, HasParams, has_value, AreFilled, Holds, AllHold, of_binding, of_each, all-cons, all-tail, value-read, with_value-read, last_in, LastFilled, but_last, single, left_over, is_member, value_at, with_keywords, all_filled}
+use Rattle.std.proofs.Common.{◌≡◌, ◌-◌, ◌<◌, ◌≤◌, ◌&&◌, ◌||◌, ◌∷◌, is_some, IfSome}
+use Rattle.class_world.specs.Sound.{HasValues}
 
 abbrev Names : Type 0
 Names = List PyStrInterned

@@ -1,15 +1,6 @@
 -- What the contracts of the row of a body say: its words, for a function of the code.
-use Rattle.std.specs.Prelude.{◌≡◌, true, List, [], ◌∷◌, Option, Some, None, IfSome, IsTrue, map}
-use Rattle.py_node.specs.declared.refs.PyObjectRef.{PyObjectRef}
-use Rattle.py_node.specs.declared.refs.PyStrInterned.{PyStrInterned}
-use Rattle.py_node.specs.declared.payload.Function.{Function}
-use Rattle.py_node.specs.declared.task.Step.{Step}
-use Rattle.plain_machine.specs.Plain.{Datum, PlainWorld, Bindings, DoBody, Said}
-use Rattle.plain_machine.specs.Rows.{fresh}
-use Rattle.class_world.specs.declared.world.World.{World}
-use Rattle.class_world.specs.Reading.{Reading, spelled, function_datum, bindings}
-use Rattle.class_world.specs.Rows.{Follows}
-use Rattle.class_world.specs.Sound.{has_value}
+use Rattle.proto_call.specs.Below.{true, List, [], Option, Some, None, IfSome, IsTrue, map, PyObjectRef, PyStrInterned, Function, Step, Datum, PlainWorld, Bindings, DoBody, Said, fresh, World, Reading, spelled, function_datum, bindings, Follows, has_value}
+use Rattle.std.specs.Prelude.{◌≡◌, ◌∷◌}
 use Rattle.proto_call.specs.declared.CallKept.{CallKept}
 use Rattle.proto_call.specs.Say.{call_job_say, opened, by_keywords, by_place, body_by}
 use Rattle.proto_call.specs.Rows.{call_stands}

@@ -1,24 +1,8 @@
 -- What the contracts of the rows of calls say.
-use Rattle.std.specs.Prelude.{◌≡◌, ℕ, List, [], ◌∷◌, Result, IfOk}
-use Rattle.py_node.specs.declared.memory.OutOfMemory.{OutOfMemory}
-use Rattle.py_node.specs.declared.entry.ObjectNative.{ObjectNative}
-use Rattle.py_node.specs.declared.entry.ObjectNative.TheVariants.{New, Ne}
-use Rattle.py_node.specs.declared.refs.PyObjectRef.{PyObjectRef}
-use Rattle.py_node.specs.declared.raised.Raised.{Raised as Fault}
-use Rattle.py_node.specs.declared.task.Answer.{Answer}
-use Rattle.py_node.specs.declared.task.CallTask.{CallTask}
-use Rattle.py_node.specs.declared.task.Step.{Step}
-use Rattle.plain_machine.specs.Plain.{PlainWorld, CallJob, DoCall, DoBody, DoTypeCall, DoNew, DoInit, DoObject, Bindings, Answered, Chose, Said}
-use Rattle.plain_machine.specs.World.{ref}
-use Rattle.plain_machine.specs.Row.{value}
-use Rattle.plain_machine.specs.Rows.{Pending, fresh}
-use Rattle.class_world.specs.declared.world.World.{World}
-use Rattle.class_world.specs.Reading.{Reading, bindings, call_job}
+use Rattle.proto_call.specs.Below.{ℕ, List, [], Result, IfOk, OutOfMemory, ObjectNative, Ne, PyObjectRef, Raised as Fault, Answer, CallTask, Step, PlainWorld, CallJob, DoCall, DoBody, DoTypeCall, DoNew, DoInit, DoObject, Bindings, Answered, Chose, Said, ref, value, Pending, fresh, World, Reading, bindings, call_job, Group, Follows, Held, Claim, IsNode, IsClass, AllHold, Grows, of_args, of_step, left_open}
+use Rattle.std.specs.Prelude.{◌≡◌, ◌∷◌}
+use Rattle.py_node.specs.declared.entry.ObjectNative.TheVariants.{New}
 use Rattle.class_world.specs.Rows as rows
-use Rattle.class_world.specs.Rows.{Group, Follows}
-use Rattle.class_world.specs.Held.{Held}
-use Rattle.class_world.specs.Sound.{Claim, IsNode, IsClass, AllHold, Grows}
-use Rattle.class_world.specs.Claims.{of_args, of_step, left_open}
 use Rattle.proto_call.specs.declared.CallKept.{CallKept}
 use Rattle.proto_call.specs.declared.CallKept.TheVariants.{Pass, Named, Native, Unequal, Turned, Scope, AfterNew, AfterInit, AfterSpecialInit}
 use Rattle.proto_call.specs.Say.{call_job_say}

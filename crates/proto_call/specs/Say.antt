@@ -1,32 +1,9 @@
 -- What the rows of calls say.
-use Rattle.std.specs.Prelude.{ℕ, zero, suc, Bool, true, false, cond, not, eqb, ◌&&◌, ◌||◌, List, [], ◌∷◌, Option, Some, None, is_some, is_none, length, map, nat_le, Ok}
-use Rattle.py_node.specs.declared.refs.PyObjectRef.{PyObjectRef}
-use Rattle.py_node.specs.declared.raised.Cause.TheVariants.{AbstractMethods, ArgCount, CannotCreate, FormatSpec, InitNotNone, NoSpecial, NotCallable, SelfType, TooLong, UnexpectedKeyword, UnsafeNew}
-use Rattle.py_node.specs.declared.entry.SlotId.TheVariants.{Call, Init, New}
-use Rattle.py_node.specs.declared.entry.SlotEntry.{SlotEntry}
-use Rattle.py_node.specs.declared.entry.SlotEntry.TheVariants.{Native, Wrapper}
-use Rattle.py_node.specs.declared.entry.ObjectNative.{ObjectNative}
+use Rattle.proto_call.specs.Below.{ℕ, zero, suc, Bool, true, false, cond, not, eqb, List, [], Option, Some, None, is_some, is_none, length, map, nat_le, Ok, PyObjectRef, AbstractMethods, ArgCount, CannotCreate, FormatSpec, InitNotNone, NoSpecial, NotCallable, SelfType, TooLong, UnexpectedKeyword, UnsafeNew, Call, Init, New, SlotEntry, Native, Wrapper, ObjectNative, Eq, value_of, with_value, Text, Tree, Started, known_text, found, slot, natives_of, Datum, AnObject, AFunction, ATuple, AList, PlainWorld, Bindings, DoEval, CallJob, DoCall, DoBody, DoTypeCall, DoNew, DoInit, DoObject, DoGeneric, DoGenericSet, DoSpecial, DoCmp, DoIsTrue, DoRepr, DoStr, DoDir, PlainTask, ToEval, ToAttribute, ToCall, ToCompare, ToProtocol, ToObject, Ended, Chose, Said, Asks, Ends, is_text, datum_at, slot_at, text_keys, with_node, next_node, with_scope, without_scope, class_object, class_number, is_instance, nearest_built_in, filled, with_one, with_two, with_three, with_text, native_end, named_end, the_object, the_type, the_tuple, native_task, show, call_native, Row, start, fork, ask, pass, end, value, done, fault, elsewhere, none, truth, is_not_implemented, on_value, on_truth, on_done, most_items}
+use Rattle.std.specs.Prelude.{◌&&◌, ◌||◌, ◌∷◌}
 use Rattle.py_node.specs.declared.entry.ObjectNative.TheVariants as object
-use Rattle.py_node.specs.declared.task.PyComparisonOp.TheVariants.{Eq}
-use Rattle.py_node.specs.Attributes.{value_of, with_value}
-use Rattle.py_node.specs.Tree.{Text, Tree}
-use Rattle.py_node.specs.Replies.{Started}
 use Rattle.py_node.specs.declared.known.Known.TheVariants as known
-use Rattle.py_node.specs.Known.{known_text}
-use Rattle.class_model.specs.Class.{found}
-use Rattle.class_model.specs.Slot.{slot}
-use Rattle.class_model.specs.BuiltIn.{natives_of}
-use Rattle.plain_machine.specs.Plain.{Datum, AnObject, AFunction, ATuple, AList, PlainWorld, Bindings, DoEval, CallJob, DoCall, DoBody, DoTypeCall, DoNew, DoInit, DoObject, DoGeneric, DoGenericSet, DoSpecial, DoCmp, DoIsTrue, DoRepr, DoStr, DoDir, PlainTask, ToEval, ToAttribute, ToCall, ToCompare, ToProtocol, ToObject, Ended, Chose, Said, Asks, Ends}
-use Rattle.plain_machine.specs.World.{is_text, datum_at, slot_at, text_keys, with_node, next_node, with_scope, without_scope}
-use Rattle.plain_machine.specs.Objects.{class_object, class_number, is_instance, nearest_built_in}
-use Rattle.plain_machine.specs.Args.{filled}
-use Rattle.plain_machine.specs.Takes.{with_one, with_two, with_three, with_text, native_end, named_end}
-use Rattle.plain_machine.specs.Known.{the_object, the_type, the_tuple}
-use Rattle.plain_machine.specs.Native.{native_task}
-use Rattle.plain_machine.specs.Show.{show}
-use Rattle.native_base.specs.Called.{call_native}
-use Rattle.native_objects.specs.Objects.{object_native_say}
-use Rattle.plain_machine.specs.Row.{Row, start, fork, ask, pass, end, value, done, fault, elsewhere, none, truth, is_not_implemented, on_value, on_truth, on_done, most_items}
+use Rattle.proto_call.specs.ObjectNatives.{object_native_say}
 
 abbrev pub is_empty : {A : Type 0} → List A → Bool
 is_empty [] = true

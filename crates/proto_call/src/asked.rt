@@ -1,11 +1,7 @@
 //! What several rows ask, and how they refuse.
 
 ghost use Rattle.std.specs.Prelude.{◌≡◌, ◌∷◌};
-ghost use Rattle.py_node.specs.Known.{known_text};
-ghost use Rattle.plain_machine.specs.Plain.{ToAttribute, DoSpecial};
-ghost use Rattle.class_world.specs.Sound.{AllHold, IsNode};
-ghost use Rattle.class_world.specs.Claims.{of_args, of_task};
-ghost use Rattle.class_world.specs.Reading.{Reading, Reads, bindings, task_of};
+ghost use Rattle.proto_call.specs.Below.{known_text, ToAttribute, DoSpecial, AllHold, IsNode, of_args, of_task, Reading, Reads, bindings, task_of};
 
 use class_world::World;
 use py_node::task::{Args, Keywords};

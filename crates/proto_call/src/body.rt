@@ -1,17 +1,9 @@
 //! The row of a body: arguments and keywords fill the parameters of its function, and its scope opens.
 
-ghost use Rattle.std.specs.Prelude.{◌≡◌, [], ◌∷◌, map, string_bytes, IfOk, IfSome, OnOk};
-ghost use Rattle.py_node.specs.Replies.{started_of};
-ghost use Rattle.plain_machine.specs.Plain.{ATuple};
-ghost use Rattle.plain_machine.specs.World.{datum_at, is_text, with_node, next_node};
-ghost use Rattle.class_world.specs.Reading.{Reading, Reads, spelled, bindings, plain, function_datum};
-ghost use Rattle.class_world.specs.Sound.{AllHold, AreNames, AreNodes, Grows, HasParams, HasValues, Holds, IsName, IsNode, of_binding, of_each, of_function, of_node_ref, of_option};
-ghost use Rattle.class_world.specs.Claims.{of_args, LeavesOpen};
-ghost use Rattle.py_node.specs.Attributes.{with_value};
+ghost use Rattle.proto_call.specs.Below.{[], map, string_bytes, IfOk, IfSome, OnOk, started_of, ATuple, datum_at, is_text, with_node, next_node, Reading, Reads, spelled, bindings, plain, function_datum, AllHold, AreNames, AreNodes, Grows, HasParams, HasValues, Holds, IsName, IsNode, of_binding, of_each, of_function, of_node_ref, of_option, of_args, LeavesOpen, with_value, the_tuple, filled};
+ghost use Rattle.std.specs.Prelude.{◌≡◌, ◌∷◌};
 ghost use Rattle.py_node.specs.declared.task.CallTask.TheVariants as call;
 ghost use Rattle.proto_call.specs.Say.{but_last, last_of, left_over, rest_fits, value_text, shown, started};
-ghost use Rattle.plain_machine.specs.Known.{the_tuple};
-ghost use Rattle.plain_machine.specs.Args.{filled};
 ghost use Rattle.proto_call.specs.Rows.{Begins, of_call_kept, bodies_of};
 ghost use Rattle.proto_call.specs.Bodies.{Enters, LastFilled, RestFilled, RunsAs, datum_of, last_in, opened_of, by_keywords_of, by_place_of};
 

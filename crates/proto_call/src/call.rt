@@ -1,17 +1,16 @@
 //! The call of an object.
 
-ghost use Rattle.std.specs.Prelude.{◌∷◌, IfOk};
+ghost use Rattle.proto_call.specs.Below.{IfOk, AllHold, IsNode, of_args};
+ghost use Rattle.std.specs.Prelude.{◌∷◌};
 ghost use Rattle.py_node.specs.declared.task.CallTask.TheVariants as call;
-ghost use Rattle.class_world.specs.Sound.{AllHold, IsNode};
-ghost use Rattle.class_world.specs.Claims.{of_args};
 ghost use Rattle.proto_call.specs.Rows.{Begins, LeavesNone};
 
 use crate::CallKept;
 use crate::asked::special;
 use class_world::World;
-use native_base::called::native_call;
 use py_node::task::{Args, Keywords};
 use py_node::{Cause, Known, OutOfMemory, PyObjectRef, SlotEntry, SlotId, Step};
+use row_kit::called::native_call;
 
 /// An object is called as its class's entry for calls says: by a native, or by the special method.
 pub(crate) fn begin_call(

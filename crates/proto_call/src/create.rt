@@ -1,26 +1,21 @@
 //! The call of a class, and the making of its object.
 
-ghost use Rattle.std.specs.Prelude.{◌≡◌, ◌&&◌, ◌∷◌, Ok, eqb, cond, IfOk};
+ghost use Rattle.proto_call.specs.Below.{Ok, eqb, cond, IfOk, ToCall, DoNew, DoInit, Ends, pass, value, AllHold, Holds, Grows, IsNode, IsClass, of_option, of_node_ref, of_args, of_task, Reading, Reads, bindings, plain, task_of, the_type};
+ghost use Rattle.std.specs.Prelude.{◌≡◌, ◌&&◌, ◌∷◌};
 ghost use Rattle.py_node.specs.declared.task.CallTask.TheVariants as call;
-ghost use Rattle.plain_machine.specs.Plain.{ToCall, DoNew, DoInit, Ends};
-ghost use Rattle.plain_machine.specs.Row.{pass, value};
-ghost use Rattle.class_world.specs.Sound.{AllHold, Holds, Grows, IsNode, IsClass, of_option, of_node_ref};
-ghost use Rattle.class_world.specs.Claims.{of_args, of_task};
-ghost use Rattle.class_world.specs.Reading.{Reading, Reads, bindings, plain, task_of};
 ghost use Rattle.proto_call.specs.Say.{is_empty, initialised, new_by, new_found};
-ghost use Rattle.plain_machine.specs.Known.{the_type};
 ghost use Rattle.proto_call.specs.Rows.{Begins, Starts, Continues, Resumes, OpensNone, LeavesNone};
 
 use crate::CallKept;
 use class_world::World;
 use class_world::args::{copy_args, copy_keywords};
 use class_world::natives::native_task;
-use native_base::called::bound;
 use py_node::task::{Args, Keywords};
 use py_node::{
     Answer, BuiltIn, CallTask, Cause, Known, OutOfMemory, PyObjectRef, PyStrInterned, PyTypeRef,
     SlotEntry, SlotId, Step, Task,
 };
+use row_kit::called::bound;
 use std::alloc::Global;
 
 /// The call of a class: first the object is made, of the same arguments.

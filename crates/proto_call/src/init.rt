@@ -1,18 +1,17 @@
 //! The initialisation of an object.
 
-ghost use Rattle.std.specs.Prelude.{◌≡◌, ◌∷◌, Ok, IfOk};
+ghost use Rattle.proto_call.specs.Below.{Ok, IfOk, AllHold, Holds, IsNode, of_args};
+ghost use Rattle.std.specs.Prelude.{◌≡◌, ◌∷◌};
 ghost use Rattle.py_node.specs.declared.task.CallTask.TheVariants as call;
-ghost use Rattle.class_world.specs.Sound.{AllHold, Holds, IsNode};
-ghost use Rattle.class_world.specs.Claims.{of_args};
 ghost use Rattle.proto_call.specs.Rows.{Begins, Resumes, OpensNone, LeavesNone};
 
 use crate::CallKept;
 use crate::asked::special;
 use class_world::natives::native_task;
 use class_world::{Fixed, World};
-use native_base::called::bound;
 use py_node::task::{Args, Keywords};
 use py_node::{Answer, Cause, Known, OutOfMemory, PyObjectRef, SlotEntry, SlotId, Step};
+use row_kit::called::bound;
 
 /// An object is initialised as its class's entry for that says, if there is one: by a native, or by the
 /// special method.

@@ -1,9 +1,9 @@
-//! The rows of calls, each a small automaton: `begin` and `resume`.
+//! How expressions and calls are evaluated, and classes made.
+//!
+//! At the root: the rows of calls, each a small automaton: `begin` and `resume`.
 #![tactic(auto, unfolding(crate::specs::Say::call_job_say))]
 
-ghost use Rattle.std.specs.Prelude.{IfOk};
-ghost use Rattle.class_world.specs.Sound.{AllHold};
-ghost use Rattle.class_world.specs.Claims.{of_call_task, of_ended, LeavesOpen};
+ghost use Rattle.proto_call.specs.Below.{IfOk, AllHold, of_call_task, of_ended, LeavesOpen};
 ghost use Rattle.proto_call.specs.Rows.{Begins, Resumes, of_call_kept, bodies_of};
 
 use crate::body::begin_body;
@@ -13,16 +13,19 @@ use crate::init::{begin_init, resume_init};
 use crate::object::{begin_object, native_end};
 use crate::texts::equal_given;
 use class_world::World;
-use native_base::give::as_object;
 use py_node::task::{Args, Keywords};
 use py_node::{Answer, CallTask, OutOfMemory, PyObjectRef, PyTypeRef, Raised, Step};
+use row_kit::give::as_object;
 
 mod asked;
 mod body;
 mod call;
+pub mod class_make;
 mod create;
+pub mod eval_forms;
 mod init;
 mod object;
+mod object_natives;
 mod parameters;
 mod texts;
 

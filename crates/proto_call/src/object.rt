@@ -1,23 +1,18 @@
 //! The natives of `object`.
 
-ghost use Rattle.std.specs.Prelude.{◌≡◌, Some, IfOk, option_map};
+ghost use Rattle.proto_call.specs.Below.{Some, IfOk, option_map, is_text, datum_at, found, AllHold, Holds, Grows, IsNode, IsClass, IsOf, AreNodes, of_option, of_node_ref, of_class_ref, of_args, of_ended, Reading, Reads, bindings, datum, plain, the_object};
+ghost use Rattle.std.specs.Prelude.{◌≡◌};
 ghost use Rattle.py_node.specs.declared.entry.ObjectNative.TheVariants as object;
 ghost use Rattle.py_node.specs.declared.task.CallTask.TheVariants as call;
-ghost use Rattle.plain_machine.specs.World.{is_text, datum_at};
-ghost use Rattle.class_model.specs.Class.{found};
 ghost use Rattle.py_node.specs.declared.built_in.BuiltIn.TheVariants.{Object};
-ghost use Rattle.class_world.specs.Sound.{AllHold, Holds, Grows, IsNode, IsClass, IsOf, AreNodes, of_option, of_node_ref, of_class_ref};
-ghost use Rattle.class_world.specs.Claims.{of_args, of_ended};
-ghost use Rattle.class_world.specs.Reading.{Reading, Reads, bindings, datum, plain};
 ghost use Rattle.proto_call.specs.Say.{object_by, object_new, object_init, object_init_subclass, object_get_attribute, object_set_attr, object_del_attr, new_of_class, created, unless_abstract, is_abstract, has_items};
-ghost use Rattle.plain_machine.specs.Known.{the_object};
 ghost use Rattle.proto_call.specs.Rows.{Begins, Resumes, Closes, Does, OpensNone, LeavesNone};
 
 use crate::CallKept;
+use crate::object_natives::object_native;
 use crate::texts::{object_dir, object_format, object_ne, object_str};
 use class_world::takes::{one, three, two};
 use class_world::{Fixed, World};
-use native_objects::object_native;
 use py_node::task::{Args, Keywords};
 use py_node::{
     Answer, AttributeTask, BuiltIn, Cause, Known, ObjectNative, OutOfMemory, Payload, PyObjectRef,

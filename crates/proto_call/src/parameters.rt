@@ -1,11 +1,7 @@
 //! How the arguments of a call fill the parameters of a function.
 
-ghost use Rattle.std.specs.Prelude.{◌≡◌, ◌&&◌, true, map, is_none, IsTrue, IfOk, IfSome, option_map};
-ghost use Rattle.std.specs.List.{All};
-ghost use Rattle.py_node.specs.declared.refs.PyStrInterned.{PyStrInterned};
-ghost use Rattle.class_world.specs.Held.{Held};
-ghost use Rattle.class_world.specs.Reading.{Reading, spelled, bindings};
-ghost use Rattle.class_world.specs.Sound.{AllHold, AreNames, AreNodes, Holds, has_value, of_binding, of_each};
+ghost use Rattle.proto_call.specs.Below.{true, map, is_none, IsTrue, IfOk, IfSome, option_map, All, PyStrInterned, Held, Reading, spelled, bindings, AllHold, AreNames, AreNodes, Holds, has_value, of_binding, of_each};
+ghost use Rattle.std.specs.Prelude.{◌≡◌, ◌&&◌};
 ghost use Rattle.proto_call.specs.Say.{single, left_over, is_member, value_at, with_keywords, all_filled};
 
 use py_node::{OutOfMemory, PyAttributes, PyObjectRef, PyStrInterned};

@@ -1,21 +1,18 @@
 //! The natives of `object` on its text and its attributes' names, and on whether two objects are not equal.
 
-ghost use Rattle.std.specs.Prelude.{◌≡◌, Ok};
+ghost use Rattle.proto_call.specs.Below.{Ok, bindings, of_ended, AllHold, AreNodes, Holds, IsNode, is_not_implemented};
 ghost use Rattle.py_node.specs.declared.entry.ObjectNative.TheVariants as object;
-ghost use Rattle.class_world.specs.Reading.{Reading, bindings};
-ghost use Rattle.class_world.specs.Claims.{of_ended};
-ghost use Rattle.class_world.specs.Sound.{AllHold, AreNodes, Holds, IsNode};
-ghost use Rattle.plain_machine.specs.Row.{is_not_implemented};
 ghost use Rattle.proto_call.specs.Say.{object_dir, object_format, object_ne, object_str};
 ghost use Rattle.proto_call.specs.Rows.{Does, OpensNone, Resumes};
 
 use crate::CallKept;
+use class_world::World;
 use class_world::takes::{one, two};
-use class_world::{Fixed, World};
 use py_node::{
     Answer, Cause, CompareTask, ObjectTask, Payload, ProtocolTask, PyComparisonOp, PyObjectRef,
     PyStrInterned, Raised, Step, Task,
 };
+use row_kit::questions::is_not_implemented;
 
 // The text of an object is that by which it is represented.
 pub(crate) fn object_str(
@@ -119,11 +116,4 @@ fn turned(world: &World, x: PyObjectRef) -> Step<CallKept>
     } else {
         Step::Ask(Task::Protocol(ProtocolTask::IsTrue(x)), CallKept::Turned)
     }
-}
-
-// Whether an object is NotImplemented.
-fn is_not_implemented(object: PyObjectRef) -> bool
-    ensures { result ≡ is_not_implemented object }
-{
-    object.0 == Fixed::NotImplemented.node().0
 }

@@ -1,31 +1,9 @@
 -- The ways of a test by a class.
-use Rattle.std.proofs.Common.{◌≡◌, ℕ, [], ◌∷◌, ◌&&◌, true, Ok, refl, sym, ap, subst}
-use Rattle.std.specs.Prelude.{eqb}
-use Rattle.std.specs.Global.{Vec}
-use Rattle.py_node.specs.declared.refs.PyObjectRef.{PyObjectRef}
-use Rattle.py_node.specs.declared.known.Known.TheVariants.{Instancecheck, Subclasscheck}
-use Rattle.py_node.specs.Known.{known_text}
+use Rattle.proto_object.proofs.Below.{ℕ, [], true, Ok, refl, sym, ap, subst, eqb, Vec, PyObjectRef, Instancecheck, Subclasscheck, known_text, Truth, Step, Ask, End, Task, the_type, DoSpecial, DoIsInstance, DoInst, DoIsSubclass, DoSub, ToAttribute, ToObject, Chose, ReadObjects, noting, World, Reading, Reads, plain, task_of, Steps, items_at, says, any_of, is_exactly, ObjectKept, AfterCheck, Each, InstanceOf, SubclassOf, by_way, way_of, object_job_say, Begins, object_stands, turn_job, turn_step}
+use Rattle.std.proofs.Common.{◌≡◌, ◌∷◌, ◌&&◌}
 use Rattle.py_node.specs.declared.protocol.ObjectTask.TheVariants as object
-use Rattle.py_node.specs.declared.task.Answer.TheVariants.{Truth}
-use Rattle.py_node.specs.declared.task.Step.{Step}
-use Rattle.py_node.specs.declared.task.Step.TheVariants.{Ask, End}
-use Rattle.py_node.specs.declared.task.Task.{Task}
 use Rattle.py_node.specs.declared.task.Task.TheVariants as task
-use Rattle.plain_machine.specs.Known.{the_type}
-use Rattle.plain_machine.specs.Plain.{DoSpecial, DoIsInstance, DoInst, DoIsSubclass, DoSub, ToAttribute, ToObject, Chose, ReadObjects}
-use Rattle.plain_machine.specs.Row.{noting}
-use Rattle.class_world.specs.declared.world.World.{World}
-use Rattle.class_world.specs.Reading.{Reading, Reads, plain, task_of}
-use Rattle.class_world.specs.Rows.{Steps}
-use Rattle.native_containers.specs.Take.{items_at}
-use Rattle.proto_base.specs.Each.{says, any_of}
-use Rattle.proto_base.specs.Entered.{is_exactly}
-use Rattle.proto_object.specs.declared.ObjectKept.{ObjectKept}
-use Rattle.proto_object.specs.declared.ObjectKept.TheVariants.{AfterCheck, Each, Pass}
-use Rattle.proto_object.specs.declared.turns.Turn.TheVariants.{InstanceOf, SubclassOf}
-use Rattle.proto_object.specs.Classes.{by_way, way_of}
-use Rattle.proto_object.specs.Say.{object_job_say}
-use Rattle.proto_object.specs.Rows.{Begins, object_stands, turn_job, turn_step}
+use Rattle.proto_object.specs.declared.ObjectKept.TheVariants.{Pass}
 use Rattle.proto_object.proofs.InTurn.{noting-one, noting-two, takes-turn}
 
 -- the way of a test, whether an object is an instance of a class

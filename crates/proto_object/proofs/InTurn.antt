@@ -1,29 +1,7 @@
 -- Items that are asked one after another.
-use Rattle.std.proofs.Common.{◌≡◌, ℕ, zero, suc, ◌+◌, List, [], ◌∷◌, ◌++◌, drop, refl, sym, ap, ◌∙◌, subst, arith, true, false, Some, None, Ok}
-use Rattle.std.specs.Prelude.{slice_get}
-use Rattle.std.specs.Global.{Vec}
-use Rattle.std.proofs.lemmas.List.{append-nil}
-use Rattle.py_node.specs.declared.refs.PyObjectRef.{PyObjectRef}
-use Rattle.py_node.specs.declared.task.Answer.TheVariants.{Truth, Value}
-use Rattle.py_node.specs.declared.task.Step.{Step}
-use Rattle.py_node.specs.declared.task.Step.TheVariants.{Ask, End}
-use Rattle.plain_machine.specs.Plain.{PlainWorld, ObjectJob, DoAbsSub, ATuple, Answered, Ended, Fact, Told, Said, Asks, Ends, ReadObjects}
-use Rattle.plain_machine.specs.Row.{noting, value}
-use Rattle.plain_machine.specs.World.{ref, datum_at}
-use Rattle.class_world.specs.declared.world.World.{World}
-use Rattle.class_world.specs.Reading.{Reading, plain}
-use Rattle.class_world.specs.Rows.{Steps}
-use Rattle.class_world.specs.Held.{Held}
-use Rattle.class_world.specs.Sound.{AllHold, AreNodes, IsNode, Holds}
-use Rattle.class_world.specs.Claims.{of_object_task}
-use Rattle.proto_base.specs.Each.{says, any_of}
-use Rattle.proto_object.specs.declared.ObjectKept.{ObjectKept}
-use Rattle.proto_object.specs.declared.ObjectKept.TheVariants.{AfterOwn, Each}
-use Rattle.proto_object.specs.declared.turns.Turn.{Turn}
-use Rattle.proto_object.specs.declared.turns.Turn.TheVariants.{InstanceOf, SubclassOf, Derives}
-use Rattle.proto_object.specs.Classes.{tuple_once}
-use Rattle.proto_object.specs.Say.{object_job_say}
-use Rattle.proto_object.specs.Rows.{Resumes, asked_of, object_stands, of_turn, turn_job, turn_stands, turn_step}
+use Rattle.proto_object.proofs.Below.{ℕ, zero, suc, List, [], drop, refl, sym, ap, ◌∙◌, subst, arith, true, false, Some, None, Ok, slice_get, Vec, append-nil, PyObjectRef, Truth, Value, Step, Ask, End, PlainWorld, ObjectJob, DoAbsSub, ATuple, Answered, Ended, Fact, Told, Said, Asks, Ends, ReadObjects, noting, value, ref, datum_at, World, Reading, plain, Steps, Held, AllHold, AreNodes, IsNode, Holds, of_object_task, says, any_of, ObjectKept, AfterOwn, Each, Turn, InstanceOf, SubclassOf, Derives, tuple_once, object_job_say, asked_of, object_stands, of_turn, turn_job, turn_stands, turn_step}
+use Rattle.std.proofs.Common.{◌≡◌, ◌+◌, ◌∷◌, ◌++◌}
+use Rattle.proto_object.specs.Rows.{Resumes}
 
 -- what is left after one item
 left-after : {A : Type 0} (xs : List A) (n : ℕ) (r : A) (rs : List A) → drop n xs ≡ r ∷ rs → drop (suc n) xs ≡ rs

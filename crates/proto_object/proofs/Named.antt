@@ -1,33 +1,9 @@
 -- The names of attributes, and the keys that are none of them.
-use Rattle.std.proofs.Common.{◌≡◌, ℕ, zero, suc, ◌+◌, ◌<◌, Bool, true, false, cond, not, List, [], ◌∷◌, ◌++◌, length, filter, drop, get_or, Option, Some, None, refl, sym, ap, ◌∙◌, subst, arith, append_assoc}
-use Rattle.std.specs.Prelude.{eqb, slice_get, is_some}
-use Rattle.std.proofs.lemmas.Slice.Eq.{bytes_eq-Decides}
-use Rattle.std.proofs.lemmas.Bool.{eq-eqb, eqb-true}
-use Rattle.py_node.specs.declared.refs.PyObjectRef.{PyObjectRef}
-use Rattle.py_node.specs.declared.refs.PyStrInterned.{PyStrInterned}
-use Rattle.py_node.specs.declared.protocol.ObjectTask.TheVariants as object
-use Rattle.py_node.specs.declared.raised.Raised.{Raised as Fault}
-use Rattle.py_node.specs.declared.task.Answer.{Answer}
-use Rattle.py_node.specs.declared.task.Step.TheVariants.{End}
-use Rattle.py_node.specs.Attributes.{is_same_name, value_of}
-use Rattle.py_node.specs.Tree.{Text}
-use Rattle.py_node.specs.declared.payload.Payload.{Payload}
-use Rattle.py_node.specs.declared.payload.Payload.TheVariants as payload
-use Rattle.class_model.specs.Collect.{all_attributes}
-use Rattle.plain_machine.specs.Dicts.{dict_of, is_text_datum}
-use Rattle.plain_machine.specs.Plain.{Datum, AText, PlainWorld, DoDir, Said}
-use Rattle.plain_machine.specs.World.{is_text, class_at, datum_at}
+use Rattle.proto_object.proofs.Below.{ℕ, zero, suc, Bool, true, false, cond, not, List, [], length, filter, drop, get_or, Option, Some, None, refl, sym, ap, ◌∙◌, subst, arith, append_assoc, eqb, slice_get, is_some, bytes_eq-Decides, eq-eqb, eqb-true, PyObjectRef, PyStrInterned, Raised as Fault, Answer, End, is_same_name, value_of, Text, Payload, all_attributes, dict_of, is_text_datum, Datum, AText, PlainWorld, DoDir, Said, is_text, class_at, datum_at, Held, World, Reading, Reads, bindings, datum, plain, EndsAs, Steps, IsNode, AreNodes, AllHold, Holds, of_binding, of_each, more-nodes, keyed, or_no_attributes, attributes_for, dir_by, has_name, names_made, other_keys, own_keys, object_job_say, Begins, object_stands}
+use Rattle.std.proofs.Common.{◌≡◌, ◌+◌, ◌<◌, ◌∷◌, ◌++◌}
 use Rattle.std.specs.Prelude.{Result}
-use Rattle.class_world.specs.Held.{Held}
-use Rattle.class_world.specs.declared.world.World.{World}
-use Rattle.class_world.specs.Reading.{Reading, Reads, bindings, datum, plain}
-use Rattle.class_world.specs.Rows.{EndsAs, Steps}
-use Rattle.class_world.specs.Sound.{IsNode, AreNodes, AllHold, Holds, of_binding, of_each}
-use Rattle.class_world.proofs.Claims.{more-nodes}
-use Rattle.native_objects.specs.Attributes.{keyed, or_no_attributes}
-use Rattle.proto_object.specs.Texts.{attributes_for, dir_by, has_name, names_made, other_keys, own_keys}
-use Rattle.proto_object.specs.Say.{object_job_say}
-use Rattle.proto_object.specs.Rows.{Begins, object_stands}
+use Rattle.py_node.specs.declared.protocol.ObjectTask.TheVariants as object
+use Rattle.py_node.specs.declared.payload.Payload.TheVariants as payload
 
 abbrev pub Bound : Type 0
 Bound = List (PyStrInterned × PyObjectRef)

@@ -1,19 +1,7 @@
 -- What the rows of class tests say.
-use Rattle.std.specs.Prelude.{ℕ, zero, suc, Bool, true, false, cond, eqb, not, ◌&&◌, is_some, if◌then◌else◌, List, [], ◌∷◌, Option, Some, None, Ok, Err}
-use Rattle.py_node.specs.declared.refs.PyObjectRef.{PyObjectRef}
-use Rattle.py_node.specs.declared.raised.Cause.TheVariants.{BasesShape, ClassArg}
-use Rattle.py_node.specs.declared.known.Known.{Known}
+use Rattle.proto_object.specs.Below.{ℕ, zero, suc, Bool, true, false, cond, eqb, not, is_some, List, [], Option, Some, None, Ok, Err, PyObjectRef, BasesShape, ClassArg, Known, known_text, is_sub, the_type, class_number, is_instance, special_at, Datum, ATuple, PlainWorld, DoGetAttr, DoSpecial, DoIsTrue, DoIsInstance, DoInst, DoIsSubclass, DoSub, DoAbsSub, PlainTask, ToAttribute, ToProtocol, ToObject, AsValue, Ended, ReadObjects, Chose, Said, Asks, Ends, Row, start, fork, ask, pass, end, none, fault, is_attribute_error, on_value, choose, read_objects, datum_at, items_at, says, any_of, is_exactly}
+use Rattle.std.specs.Prelude.{◌&&◌, if◌then◌else◌, ◌∷◌}
 use Rattle.py_node.specs.declared.known.Known.TheVariants as known
-use Rattle.py_node.specs.Known.{known_text}
-use Rattle.class_model.specs.Class.{is_sub}
-use Rattle.plain_machine.specs.Known.{the_type}
-use Rattle.plain_machine.specs.Objects.{class_number, is_instance, special_at}
-use Rattle.plain_machine.specs.Plain.{Datum, ATuple, PlainWorld, DoGetAttr, DoSpecial, DoIsTrue, DoIsInstance, DoInst, DoIsSubclass, DoSub, DoAbsSub, PlainTask, ToAttribute, ToProtocol, ToObject, AsValue, Ended, ReadObjects, Chose, Said, Asks, Ends}
-use Rattle.plain_machine.specs.Row.{Row, start, fork, ask, pass, end, none, fault, is_attribute_error, on_value, choose, read_objects}
-use Rattle.plain_machine.specs.World.{datum_at}
-use Rattle.native_containers.specs.Take.{items_at}
-use Rattle.proto_base.specs.Each.{says, any_of}
-use Rattle.proto_base.specs.Entered.{is_exactly}
 
 abbrev pub attribute : PyObjectRef → Known → PlainTask
 attribute o x = ToAttribute (DoGetAttr o (known_text x))

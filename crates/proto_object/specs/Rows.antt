@@ -1,23 +1,9 @@
 -- What the contracts of the rows of what all objects can do say.
-use Rattle.std.specs.Prelude.{ℕ, false, List, [], ◌∷◌, drop, Result, Ok}
-use Rattle.py_node.specs.declared.raised.Raised.{Raised as Fault}
-use Rattle.py_node.specs.declared.refs.PyObjectRef.{PyObjectRef}
-use Rattle.py_node.specs.declared.protocol.ObjectTask.{ObjectTask}
+use Rattle.proto_object.specs.Below.{ℕ, false, List, [], drop, Result, Ok, Raised as Fault, PyObjectRef, ObjectTask, Answer, Truth, Step, Ask, End, PlainWorld, ObjectJob, DoHash, DoRepr, DoStr, DoFormat, DoDir, DoIsInstance, DoInst, DoIsSubclass, DoSub, DoAbsSub, PlainTask, ToObject, Answered, Chose, ReadObjects, Said, value, none, Pending, ref, World, Reading, object_job, Group, Claim, AreNodes, IsNode}
+use Rattle.std.specs.Prelude.{◌∷◌}
 use Rattle.py_node.specs.declared.protocol.ObjectTask.TheVariants as object
-use Rattle.py_node.specs.declared.task.Answer.{Answer}
-use Rattle.py_node.specs.declared.task.Answer.TheVariants.{Truth}
-use Rattle.py_node.specs.declared.task.Step.{Step}
-use Rattle.py_node.specs.declared.task.Step.TheVariants.{Ask, End}
 use Rattle.py_node.specs.declared.task.Task.TheVariants as task
-use Rattle.plain_machine.specs.Plain.{PlainWorld, ObjectJob, DoHash, DoRepr, DoStr, DoFormat, DoDir, DoIsInstance, DoInst, DoIsSubclass, DoSub, DoAbsSub, PlainTask, ToObject, Answered, Chose, ReadObjects, Said}
-use Rattle.plain_machine.specs.Row.{value, none}
-use Rattle.plain_machine.specs.Rows.{Pending}
-use Rattle.plain_machine.specs.World.{ref}
-use Rattle.class_world.specs.declared.world.World.{World}
-use Rattle.class_world.specs.Reading.{Reading, object_job}
 use Rattle.class_world.specs.Rows as rows
-use Rattle.class_world.specs.Rows.{Group}
-use Rattle.class_world.specs.Sound.{Claim, AreNodes, IsNode}
 use Rattle.proto_object.specs.declared.ObjectKept.{ObjectKept}
 use Rattle.proto_object.specs.declared.ObjectKept.TheVariants as kept
 use Rattle.proto_object.specs.declared.turns.Turn.{Turn}

@@ -1,6 +1,5 @@
 -- What the rows of what all objects can do say.
-use Rattle.plain_machine.specs.Plain.{PlainWorld, ObjectJob, DoHash, DoRepr, DoStr, DoFormat, DoDir, DoIsInstance, DoInst, DoIsSubclass, DoSub, DoAbsSub}
-use Rattle.plain_machine.specs.Row.{Row}
+use Rattle.proto_object.specs.Below.{PlainWorld, ObjectJob, DoHash, DoRepr, DoStr, DoFormat, DoDir, DoIsInstance, DoInst, DoIsSubclass, DoSub, DoAbsSub, Row}
 use Rattle.proto_object.specs.Texts.{hash_say, repr_say, str_say, format_say, dir_say}
 use Rattle.proto_object.specs.Classes.{is_instance_say, inst_say, is_subclass_say, sub_say, abs_sub_say}
 

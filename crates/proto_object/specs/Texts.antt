@@ -1,30 +1,8 @@
 -- What the rows of hashes, texts and lists of names say.
-use Rattle.std.specs.Prelude.{ℕ, ℤ, Bool, true, false, cond, eqb, not, ◌&&◌, is_some, List, [], ◌∷◌, ◌++◌, map, filter, Option, Some, None, Ok}
-use Rattle.py_node.specs.declared.refs.PyObjectRef.{PyObjectRef}
-use Rattle.py_node.specs.declared.raised.Cause.{Cause}
-use Rattle.py_node.specs.declared.raised.Cause.TheVariants.{Unhashable, HashType, ReprType, StrType, FormatType}
-use Rattle.py_node.specs.declared.entry.SlotId.TheVariants.{Hash, Repr}
-use Rattle.py_node.specs.declared.entry.SlotEntry.{SlotEntry}
+use Rattle.proto_object.specs.Below.{ℕ, ℤ, Bool, true, false, cond, eqb, not, is_some, List, [], map, filter, Option, Some, None, Ok, PyObjectRef, Cause, Unhashable, HashType, ReprType, StrType, FormatType, Hash, Repr, SlotEntry, known_text, value_of, Text, all_attributes, Entries, dict_of, is_key, the_int, the_str, the_list, special_at, AList, PlainWorld, Bindings, DoSpecial, DoStr, ToAttribute, ToObject, AsValue, Ended, Said, Ends, Row, start, pass, end, value, none, fault, on_value, is_text, class_at, datum_at, number_of, slot_at, sized_made, entries_at, keys_of, number_hash, keyed, or_no_attributes, text_of, number, entered, is_exactly}
+use Rattle.std.specs.Prelude.{◌&&◌, ◌∷◌, ◌++◌}
 use Rattle.py_node.specs.declared.entry.SlotEntry.TheVariants as entry
 use Rattle.py_node.specs.declared.known.Known.TheVariants as known
-use Rattle.py_node.specs.Known.{known_text}
-use Rattle.py_node.specs.Attributes.{value_of}
-use Rattle.py_node.specs.Tree.{Text}
-use Rattle.class_model.specs.Collect.{all_attributes}
-use Rattle.plain_machine.specs.Dicts.{Entries, dict_of, is_key}
-use Rattle.plain_machine.specs.Known.{the_int, the_str, the_list}
-use Rattle.plain_machine.specs.Objects.{special_at}
-use Rattle.plain_machine.specs.Plain.{AList, PlainWorld, Bindings, DoSpecial, DoStr, ToAttribute, ToObject, AsValue, Ended, Said, Ends}
-use Rattle.plain_machine.specs.Row.{Row, start, pass, end, value, none, fault, on_value}
-use Rattle.plain_machine.specs.World.{is_text, class_at, datum_at, number_of, slot_at}
-use Rattle.native_base.specs.Say.{sized_made}
-use Rattle.native_containers.specs.Take.{entries_at}
-use Rattle.native_containers.specs.Say.{keys_of}
-use Rattle.native_numbers.specs.Numbers.{number_hash}
-use Rattle.native_objects.specs.Attributes.{keyed, or_no_attributes}
-use Rattle.native_texts.specs.Say.{text_of}
-use Rattle.proto_base.specs.Each.{number}
-use Rattle.proto_base.specs.Entered.{entered, is_exactly}
 
 -- a hash is that of the class's entry, unless the class says by None, or by the mark of its slot, that there is none
 abbrev pub is_none : Option PyObjectRef → Bool

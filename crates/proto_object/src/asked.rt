@@ -1,12 +1,7 @@
 //! What several rows ask or read: a special method, an attribute, a truth value that is told.
 
-ghost use Rattle.std.specs.Prelude.{◌≡◌, [], IfSome};
-ghost use Rattle.py_node.specs.Known.{known_text};
-ghost use Rattle.plain_machine.specs.Objects.{special_at};
-ghost use Rattle.plain_machine.specs.Plain.{ToAttribute, DoSpecial};
-ghost use Rattle.class_world.specs.Claims.{of_task};
-ghost use Rattle.class_world.specs.Reading.{Reading, Reads, plain, task_of};
-ghost use Rattle.class_world.specs.Sound.{AllHold, AreNodes, Holds, IsNode};
+ghost use Rattle.proto_object.specs.Below.{[], IfSome, known_text, special_at, ToAttribute, DoSpecial, of_task, Reading, Reads, plain, task_of, AllHold, AreNodes, Holds, IsNode};
+ghost use Rattle.std.specs.Prelude.{◌≡◌};
 ghost use Rattle.proto_object.specs.Classes.{attribute};
 
 use crate::ObjectKept;

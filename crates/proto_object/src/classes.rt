@@ -3,11 +3,7 @@
 
 ghost use Rattle.std.specs.Prelude.{◌≡◌};
 ghost use Rattle.py_node.specs.declared.protocol.ObjectTask.TheVariants as object;
-ghost use Rattle.plain_machine.specs.Objects.{class_number};
-ghost use Rattle.plain_machine.specs.World.{datum_at};
-ghost use Rattle.class_world.specs.Claims.{of_ended, of_step};
-ghost use Rattle.class_world.specs.Reading.{Reading, ended_of, plain};
-ghost use Rattle.class_world.specs.Sound.{AllHold, Holds, IsNode};
+ghost use Rattle.proto_object.specs.Below.{class_number, datum_at, of_ended, of_step, Reading, ended_of, plain, AllHold, Holds, IsNode};
 ghost use Rattle.proto_object.specs.Classes.{other_class, without_bases};
 ghost use Rattle.proto_object.specs.Rows.{Begins, Resumes, of_object_kept};
 

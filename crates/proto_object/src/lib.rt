@@ -1,15 +1,20 @@
-//! The rows of what all objects can do, each a small automaton: `begin` and `resume`. They tell an object's hash, its
-//! texts and the names of its attributes, and whether an object or a class counts as being of a class.
+//! What all objects can do.
+//!
+//! At the root: the rows of what all objects can do, each a small automaton: `begin` and `resume`. They tell an
+//! object's hash, its texts and the names of its attributes, and whether an object or a class counts as being of a
+//! class.
 #![tactic(auto, unfolding(crate::specs::Say::object_job_say))]
 
-ghost use Rattle.std.specs.Prelude.{◌≡◌, IfOk};
-ghost use Rattle.class_world.specs.Sound.{AllHold};
-ghost use Rattle.class_world.specs.Claims.{of_object_task, of_ended, Leaves};
+ghost use Rattle.proto_object.specs.Below.{IfOk, AllHold, of_object_task, of_ended, Leaves};
+ghost use Rattle.std.specs.Prelude.{◌≡◌};
 ghost use Rattle.proto_object.specs.Rows.{Begins, Resumes, of_object_kept};
 
 mod asked;
 mod classes;
 mod names;
+pub mod proto_items;
+pub mod proto_iter;
+pub mod proto_number;
 mod subclasses;
 mod texts;
 pub mod turns;

@@ -1,25 +1,20 @@
 //! The names of an object's attributes.
 #![tactic(auto, unfolding(crate::specs::Say::object_job_say, py_node::specs::BuiltIns::place_of))]
 
-ghost use Rattle.std.specs.Prelude.{◌≡◌, ◌++◌, [], IfOk};
+ghost use Rattle.proto_object.specs.Below.{[], IfOk, dict_of, Leaves, Reading, Reads, bindings, plain, EndsAs, LeavesEnd, AllHold, AreNodes, Holds, IsNode, of_binding, of_each, keyed};
+ghost use Rattle.std.specs.Prelude.{◌≡◌, ◌++◌};
 ghost use Rattle.py_node.specs.declared.protocol.ObjectTask.TheVariants as object;
-ghost use Rattle.plain_machine.specs.Dicts.{dict_of};
-ghost use Rattle.class_world.specs.Claims.{Leaves};
-ghost use Rattle.class_world.specs.Reading.{Reading, Reads, bindings, plain};
-ghost use Rattle.class_world.specs.Rows.{EndsAs, LeavesEnd};
-ghost use Rattle.class_world.specs.Sound.{AllHold, AreNodes, Holds, IsNode, of_binding, of_each};
-ghost use Rattle.native_objects.specs.Attributes.{keyed};
 ghost use Rattle.proto_object.specs.Texts.{has_name, names_made, other_keys, own_keys};
 ghost use Rattle.proto_object.specs.Rows.{Begins, of_object_kept};
 
 use crate::ObjectKept;
 use class_world::World;
-use native_base::give::new_sized;
-use native_containers::keys_of;
-use native_containers::take::entries;
-use native_objects::key_all;
 use py_node::task::Args;
 use py_node::{Answer, BuiltIn, OutOfMemory, Payload, PyAttributes, PyObjectRef, Raised, Step};
+use row_kit::class_attributes::key_all;
+use row_kit::entries::keys_of;
+use row_kit::give::new_sized;
+use row_kit::take_containers::entries;
 use std::alloc::Global;
 
 /// The names of the attributes of an object's class, as new texts, and then the keys of its dict that are none of

@@ -1,10 +1,9 @@
 //! Subclasses in the plain way: by the classes' linearisations, or else by what objects give as their bases.
 #![tactic(auto, unfolding(crate::specs::Say::object_job_say))]
 
-ghost use Rattle.std.specs.Prelude.{◌≡◌, IfOk};
+ghost use Rattle.proto_object.specs.Below.{IfOk, of_ended, of_step, Leaves, AllHold, Holds, IsNode};
+ghost use Rattle.std.specs.Prelude.{◌≡◌};
 ghost use Rattle.py_node.specs.declared.protocol.ObjectTask.TheVariants as object;
-ghost use Rattle.class_world.specs.Claims.{of_ended, of_step, Leaves};
-ghost use Rattle.class_world.specs.Sound.{AllHold, Holds, IsNode};
 ghost use Rattle.proto_object.specs.Rows.{Begins, Resumes, of_object_kept};
 
 use crate::ObjectKept;

@@ -1,14 +1,9 @@
 //! An object's hash, and its texts.
 #![tactic(auto, unfolding(crate::specs::Say::object_job_say, py_node::specs::BuiltIns::place_of))]
 
-ghost use Rattle.std.specs.Prelude.{◌≡◌, [], IfOk};
+ghost use Rattle.proto_object.specs.Below.{[], IfOk, of_ended, of_step, Leaves, Reading, ended_of, plain, AllHold, Holds, IsNode, Ends, datum_at, text_of};
+ghost use Rattle.std.specs.Prelude.{◌≡◌};
 ghost use Rattle.py_node.specs.declared.protocol.ObjectTask.TheVariants as object;
-ghost use Rattle.class_world.specs.Claims.{of_ended, of_step, Leaves};
-ghost use Rattle.class_world.specs.Reading.{Reading, ended_of, plain};
-ghost use Rattle.class_world.specs.Sound.{AllHold, Holds, IsNode};
-ghost use Rattle.plain_machine.specs.Plain.{Ends};
-ghost use Rattle.plain_machine.specs.World.{datum_at};
-ghost use Rattle.native_texts.specs.Say.{text_of};
 ghost use Rattle.proto_object.specs.Texts.{hash_entry, hash_rest, is_none, is_unspecified, text_only};
 ghost use Rattle.proto_object.specs.Rows.{Begins, of_object_kept};
 
@@ -16,13 +11,13 @@ use crate::ObjectKept;
 use crate::asked::{method, special};
 use class_world::args::alone;
 use class_world::{Fixed, World};
-use native_numbers::reckon::number_hash;
-use proto_base::{entered, is_exactly};
 use py_node::protocol::ObjectTask;
 use py_node::{
     Answer, BuiltIn, Cause, Known, OutOfMemory, Payload, PyObjectRef, Raised, SlotEntry, SlotId,
     Step, Task,
 };
+use row_kit::int_values::number_hash;
+use row_kit::proto_base::{entered, is_exactly};
 
 /// The hash of an object, by its class's entry. A class may say by None that its objects have none.
 pub(crate) fn begin_hash(world: &World, o: PyObjectRef) -> Result<Step<ObjectKept>, OutOfMemory>

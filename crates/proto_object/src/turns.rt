@@ -1,8 +1,7 @@
 //! Items that are asked one after another, until one counts.
 
-ghost use Rattle.std.specs.Prelude.{◌≡◌, ◌+◌, drop, slice_get};
-ghost use Rattle.class_world.specs.Claims.{of_ended, of_step};
-ghost use Rattle.class_world.specs.Sound.{AllHold, AreNodes, Holds, IsNode};
+ghost use Rattle.proto_object.specs.Below.{drop, slice_get, of_ended, of_step, AllHold, AreNodes, Holds, IsNode};
+ghost use Rattle.std.specs.Prelude.{◌≡◌, ◌+◌};
 ghost use Rattle.proto_object.specs.Rows.{Resumes, asked_of, of_object_kept, of_turn, turn_step};
 
 use crate::ObjectKept;

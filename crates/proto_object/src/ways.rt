@@ -2,15 +2,9 @@
 //! class may say so, and a tuple stands for each of its objects.
 #![tactic(auto, unfolding(crate::specs::Say::object_job_say, py_node::specs::BuiltIns::place_of))]
 
-ghost use Rattle.std.specs.Prelude.{◌≡◌, ◌&&◌, eqb, IfOk};
+ghost use Rattle.proto_object.specs.Below.{eqb, IfOk, the_type, datum_at, of_ended, of_step, Leaves, Reading, Reads, plain, AllHold, AreNodes, Holds, IsNode, items_at, is_exactly};
+ghost use Rattle.std.specs.Prelude.{◌≡◌, ◌&&◌};
 ghost use Rattle.py_node.specs.declared.protocol.ObjectTask.TheVariants as object;
-ghost use Rattle.plain_machine.specs.Known.{the_type};
-ghost use Rattle.plain_machine.specs.World.{datum_at};
-ghost use Rattle.class_world.specs.Claims.{of_ended, of_step, Leaves};
-ghost use Rattle.class_world.specs.Reading.{Reading, Reads, plain};
-ghost use Rattle.class_world.specs.Sound.{AllHold, AreNodes, Holds, IsNode};
-ghost use Rattle.native_containers.specs.Take.{items_at};
-ghost use Rattle.proto_base.specs.Entered.{is_exactly};
 ghost use Rattle.proto_object.specs.Classes.{is_tuple, way_of};
 ghost use Rattle.proto_object.specs.Rows.{Begins, Resumes, of_object_kept, way_number};
 
@@ -19,11 +13,11 @@ use crate::asked::{method, says, special};
 use crate::turns::{Turn, take_turn};
 use class_world::World;
 use class_world::args::{alone, copy_args};
-use native_containers::items;
-use proto_base::is_exactly;
 use py_node::protocol::{ObjectTask, ProtocolTask};
 use py_node::task::Args;
 use py_node::{Answer, BuiltIn, Known, OutOfMemory, Payload, PyObjectRef, Raised, Step, Task};
+use row_kit::proto_base::is_exactly;
+use row_kit::take_containers::items;
 
 /// How a test by a class is done.
 #[derive(Clone, Copy)]

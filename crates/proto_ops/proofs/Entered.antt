@@ -1,18 +1,7 @@
 -- The step of a sum of whole numbers is what its row says.
-use Rattle.std.proofs.Common.{◌≡◌, [], ◌∷◌, Some, Ok, sym, ap, ◌∙◌, subst}
-use Rattle.py_node.specs.declared.refs.PyObjectRef.{PyObjectRef}
-use Rattle.py_node.specs.declared.task.Answer.TheVariants.{Value}
-use Rattle.plain_machine.specs.Plain.{DoInt, ANumber, Ends}
-use Rattle.plain_machine.specs.World.{datum_at, number_of, with_node, next_node}
-use Rattle.plain_machine.specs.Row.{value}
-use Rattle.class_world.specs.declared.world.World.{World}
-use Rattle.class_world.specs.Reading.{Reading, Reads, plain}
-use Rattle.class_world.specs.Rows.{Steps}
-use Rattle.py_node.specs.declared.task.Step.TheVariants.{End}
+use Rattle.proto_ops.proofs.Below.{[], Some, Ok, sym, ap, ◌∙◌, subst, PyObjectRef, Value, DoInt, ANumber, Ends, datum_at, number_of, with_node, next_node, value, World, Reading, Reads, plain, Steps, End, ℤ, operator_say, sum_say, int_or_fault, total, operator_stands, Sums}
+use Rattle.std.proofs.Common.{◌≡◌, ◌∷◌}
 use Rattle.py_node.specs.declared.entry.IntNative.TheVariants as int
-use Rattle.std.specs.Prelude.{ℤ}
-use Rattle.proto_ops.specs.Say.{operator_say, sum_say, int_or_fault, total}
-use Rattle.proto_ops.specs.Rows.{operator_stands, Sums}
 
 -- the sum of two numbers is a new one
 pub sum-made : (w new : World) (a b r : PyObjectRef) (x y z : ℤ) → ((t : Reading) → number_of (datum_at (plain t w) a) ≡ Some x) → ((t : Reading) → number_of (datum_at (plain t w) b) ≡ Some y) → total x y ≡ Some z → ((t : Reading) → plain t new ≡ with_node (plain t w) 4 (ANumber z)) → ((t : Reading) → r ≡ next_node (plain t w) 4) → ((t : Reading) → Reads t new → Reads t w) → Sums a b w new (End (Ok (Value r)))

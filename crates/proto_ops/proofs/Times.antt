@@ -1,20 +1,8 @@
 -- A sequence is repeated as often as an index says.
-use Rattle.std.proofs.Common.{◌≡◌, ◌∙◌, [], ◌∷◌, ◌++◌, ℤ, Option, Ok, refl, sym, ap, subst}
-use Rattle.py_node.specs.declared.raised.Cause.TheVariants.{RepeatTooLong}
-use Rattle.py_node.specs.declared.refs.PyObjectRef.{PyObjectRef}
-use Rattle.py_node.specs.declared.task.Answer.TheVariants.{Value}
+use Rattle.proto_ops.proofs.Below.{◌∙◌, [], Option, Ok, refl, sym, ap, subst, RepeatTooLong, PyObjectRef, Value, Ask, PlainWorld, Answered, DoRepeat, DoInplaceRepeat, Told, ToOperator, Row, pass, value, within_index, datum_at, number_of, World, Reading, plain, Steps, InplaceTimes, Pass, Times, Resumes, operator_stands, operator_say}
+use Rattle.std.proofs.Common.{◌≡◌, ◌∷◌, ◌++◌, ℤ}
 use Rattle.py_node.specs.declared.task.OperatorTask.TheVariants as operator
-use Rattle.py_node.specs.declared.task.Step.TheVariants.{Ask}
 use Rattle.py_node.specs.declared.task.Task.TheVariants as task
-use Rattle.plain_machine.specs.Plain.{PlainWorld, Answered, DoRepeat, DoInplaceRepeat, Told, ToOperator}
-use Rattle.plain_machine.specs.Row.{Row, pass, value, within_index}
-use Rattle.plain_machine.specs.World.{datum_at, number_of}
-use Rattle.class_world.specs.declared.world.World.{World}
-use Rattle.class_world.specs.Reading.{Reading, plain}
-use Rattle.class_world.specs.Rows.{Steps}
-use Rattle.proto_ops.specs.declared.OperatorKept.TheVariants.{InplaceTimes, Pass, Times}
-use Rattle.proto_ops.specs.Rows.{Resumes, operator_stands}
-use Rattle.proto_ops.specs.Say.{operator_say}
 
 -- this number tells how often
 abbrev Counts : Option ℤ → ℤ → Type 0

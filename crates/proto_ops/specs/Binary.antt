@@ -1,23 +1,7 @@
 -- What the rows of operators of numbers say.
-use Rattle.std.specs.Prelude.{ℕ, zero, suc, Bool, cond, List, [], ◌∷◌, Option, Some, None}
-use Rattle.py_node.specs.declared.refs.PyObjectRef.{PyObjectRef}
-use Rattle.py_node.specs.declared.raised.Cause.TheVariants.{UnsupportedOperand, UnsupportedUnary}
-use Rattle.py_node.specs.declared.entry.SlotId.{SlotId}
-use Rattle.py_node.specs.declared.entry.SlotEntry.{SlotEntry}
-use Rattle.py_node.specs.declared.entry.SlotEntry.TheVariants.{Native, Wrapper, Unhashable}
-use Rattle.py_node.specs.declared.task.PyNumberBinaryOp.{PyNumberBinaryOp}
-use Rattle.py_node.specs.declared.task.PyNumberUnaryOp.{PyNumberUnaryOp}
-use Rattle.py_node.specs.declared.task.PyNumberUnaryOp.TheVariants.{Negative, Positive, Absolute, Invert}
-use Rattle.py_node.specs.declared.known.Known.{Known}
+use Rattle.proto_ops.specs.Below.{ℕ, zero, suc, Bool, cond, List, [], Option, Some, None, PyObjectRef, UnsupportedOperand, UnsupportedUnary, SlotId, SlotEntry, Native, Wrapper, Unhashable, PyNumberBinaryOp, PyNumberUnaryOp, Negative, Positive, Absolute, Invert, Known, known_text, names_of, operator_row, is_reflected, PlainWorld, PlainTask, DoBinOp1, DoEnter, DoInplaceOp1, DoSpecial, ToAttribute, ToOperator, Ended, Said, Asks, Ends, Chose, class_at, slot_at, candidates_at, native_task, special_at, Row, start, fork, ask, pass, end, value, not_implemented, fault, elsewhere, or_else, read_once}
+use Rattle.std.specs.Prelude.{◌∷◌}
 use Rattle.py_node.specs.declared.known.Known.TheVariants as known
-use Rattle.py_node.specs.Known.{known_text}
-use Rattle.py_node.specs.Slots.{names_of}
-use Rattle.py_node.specs.Operators.{operator_row, is_reflected}
-use Rattle.plain_machine.specs.Plain.{PlainWorld, PlainTask, DoBinOp1, DoEnter, DoInplaceOp1, DoSpecial, ToAttribute, ToOperator, Ended, Said, Asks, Ends, Chose}
-use Rattle.plain_machine.specs.World.{class_at, slot_at, candidates_at}
-use Rattle.plain_machine.specs.Native.{native_task}
-use Rattle.plain_machine.specs.Objects.{special_at}
-use Rattle.plain_machine.specs.Row.{Row, start, fork, ask, pass, end, value, not_implemented, fault, elsewhere, or_else, read_once}
 
 -- the candidates are read once, and entered in turn, until one gives another answer than NotImplemented
 abbrev pub in_turn : PlainWorld → PyObjectRef → PyObjectRef → List SlotEntry → Row

@@ -1,19 +1,6 @@
 -- What the rows of powers say, which have a third operand: a modulus, or None.
-use Rattle.std.specs.Prelude.{ℕ, zero, suc, Bool, false, cond, eqb, not, ◌&&◌, ◌==◌, length, List, [], ◌∷◌, Option, Some, None}
-use Rattle.std.specs.List.{list_any}
-use Rattle.py_node.specs.declared.refs.PyObjectRef.{PyObjectRef}
-use Rattle.py_node.specs.declared.raised.Cause.TheVariants.{UnsupportedOperand}
-use Rattle.py_node.specs.declared.entry.SlotId.TheVariants.{Power, RightPower, InplacePower}
-use Rattle.py_node.specs.declared.entry.SlotEntry.{SlotEntry}
-use Rattle.py_node.specs.declared.entry.SlotEntry.TheVariants.{Native, Wrapper, Unhashable}
-use Rattle.py_node.specs.BuiltIns.{fixed_none}
-use Rattle.py_node.specs.Natives.{is_same_entry}
-use Rattle.py_node.specs.Operators.{is_reflected}
-use Rattle.class_model.specs.Class.{is_sub}
-use Rattle.plain_machine.specs.Plain.{PlainWorld, DoEnter, DoEnterPower, DoPower, ToOperator, Ended, Said, Asks, Ends, Chose}
-use Rattle.plain_machine.specs.World.{class_at, slot_at, candidates_at, goes_first_at}
-use Rattle.plain_machine.specs.Native.{native_task}
-use Rattle.plain_machine.specs.Row.{Row, start, fork, ask, pass, end, fault, elsewhere, or_else, choose, read_once}
+use Rattle.proto_ops.specs.Below.{ℕ, zero, suc, Bool, false, cond, eqb, not, length, List, [], Option, Some, None, list_any, PyObjectRef, UnsupportedOperand, Power, RightPower, InplacePower, SlotEntry, Native, Wrapper, Unhashable, fixed_none, is_same_entry, is_reflected, is_sub, PlainWorld, DoEnter, DoEnterPower, DoPower, ToOperator, Ended, Said, Asks, Ends, Chose, class_at, slot_at, candidates_at, goes_first_at, native_task, Row, start, fork, ask, pass, end, fault, elsewhere, or_else, choose, read_once}
+use Rattle.std.specs.Prelude.{◌&&◌, ◌==◌, ◌∷◌}
 use Rattle.proto_ops.specs.Binary.{enter_method, unsupported}
 
 -- a method takes the modulus where there is one

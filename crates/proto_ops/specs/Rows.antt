@@ -1,23 +1,7 @@
 -- What the contracts of the rows of operators say.
-use Rattle.std.specs.Prelude.{ℕ, pos, Bool, false, cond, List, [], ◌∷◌, Result, Option, Some, None, Ok}
-use Rattle.py_node.specs.declared.raised.Raised.{Raised as Fault}
-use Rattle.py_node.specs.declared.refs.PyObjectRef.{PyObjectRef}
-use Rattle.py_node.specs.declared.entry.SlotEntry.{SlotEntry}
-use Rattle.py_node.specs.declared.entry.SlotEntry.TheVariants.{Unhashable}
-use Rattle.py_node.specs.declared.task.Answer.{Answer}
-use Rattle.py_node.specs.declared.task.Answer.TheVariants.{Value}
-use Rattle.py_node.specs.declared.task.OperatorTask.{OperatorTask}
-use Rattle.py_node.specs.declared.task.PyNumberBinaryOp.TheVariants.{Add}
-use Rattle.py_node.specs.declared.task.Step.{Step}
-use Rattle.plain_machine.specs.Plain.{OperatorJob, DoAdd, DoInplaceAdd, DoBinOp1, DoBinary, DoInplaceOp1, DoConcat, DoMul, DoInplaceMul, DoRepeat, DoPower, DoInplacePower, DoEnter, DoInt, AsValue, Ended, Answered, Chose, Read, Told}
-use Rattle.plain_machine.specs.World.{ref}
-use Rattle.plain_machine.specs.Row.{value, not_implemented, is_not_implemented}
-use Rattle.plain_machine.specs.Rows.{Pending, fresh}
-use Rattle.class_world.specs.declared.world.World.{World}
-use Rattle.class_world.specs.Reading.{Reading, operator_job}
+use Rattle.proto_ops.specs.Below.{ℕ, pos, Bool, false, cond, List, [], Result, Option, Some, None, Ok, Raised as Fault, PyObjectRef, SlotEntry, Unhashable, Answer, Value, OperatorTask, Add, Step, OperatorJob, DoAdd, DoInplaceAdd, DoBinOp1, DoBinary, DoInplaceOp1, DoConcat, DoMul, DoInplaceMul, DoRepeat, DoPower, DoInplacePower, DoEnter, DoInt, AsValue, Ended, Answered, Chose, Read, Told, ref, value, not_implemented, is_not_implemented, Pending, fresh, World, Reading, operator_job, Group, Goes, Claim, IsNode}
+use Rattle.std.specs.Prelude.{◌∷◌}
 use Rattle.class_world.specs.Rows as rows
-use Rattle.class_world.specs.Rows.{Group, Goes}
-use Rattle.class_world.specs.Sound.{Claim, IsNode}
 use Rattle.py_node.specs.declared.entry.IntNative.TheVariants as int
 use Rattle.proto_ops.specs.declared.OperatorKept.{OperatorKept}
 use Rattle.proto_ops.specs.declared.OperatorKept.TheVariants.{Pass, OrElse, Times, InplaceTimes}

@@ -1,13 +1,6 @@
 -- What the rows of operators say.
-use Rattle.std.specs.Prelude.{ℤ, ◌+ℤ◌, cond, [], ◌∷◌, Option, Some, None}
-use Rattle.py_node.specs.declared.refs.PyObjectRef.{PyObjectRef}
-use Rattle.py_node.specs.declared.raised.Cause.TheVariants.{IntRange, ArgCount, UnexpectedKeyword}
-use Rattle.plain_machine.specs.Plain.{ANumber, PlainWorld, Bindings, OperatorJob, DoAdd, DoBinOp1, DoEnter, DoBinary, DoInplaceOp1, DoInplace, DoConcat, DoInplaceAdd, DoInplaceConcat, DoMul, DoRepeat, DoInplaceMul, DoInplaceRepeat, DoNativeRepeat, DoEnterPower, DoPower, DoInplacePower, DoUnary, DoInt}
-use Rattle.plain_machine.specs.World.{datum_at, number_of}
-use Rattle.plain_machine.specs.Args.{two_of}
-use Rattle.plain_machine.specs.Known.{the_int}
-use Rattle.plain_machine.specs.Row.{Row, end, value, not_implemented, fits, fault, make}
-use Rattle.native_base.specs.Repeats.{native_repeat}
+use Rattle.proto_ops.specs.Below.{ℤ, cond, [], Option, Some, None, PyObjectRef, IntRange, ArgCount, UnexpectedKeyword, ANumber, PlainWorld, Bindings, OperatorJob, DoAdd, DoBinOp1, DoEnter, DoBinary, DoInplaceOp1, DoInplace, DoConcat, DoInplaceAdd, DoInplaceConcat, DoMul, DoRepeat, DoInplaceMul, DoInplaceRepeat, DoNativeRepeat, DoEnterPower, DoPower, DoInplacePower, DoUnary, DoInt, datum_at, number_of, two_of, the_int, Row, end, value, not_implemented, fits, fault, make, native_repeat}
+use Rattle.std.specs.Prelude.{◌+ℤ◌, ◌∷◌}
 use Rattle.proto_ops.specs.Binary.{binop1_say, enter_say, binary_say, inplace_op1_say, inplace_say, unary_say}
 use Rattle.proto_ops.specs.Sequences.{add_say, concat_say, inplace_add_say, inplace_concat_say, mul_say, inplace_mul_say, repeat_say, inplace_repeat_say}
 use Rattle.proto_ops.specs.Powers.{enter_power_say, power_say, inplace_power_say}

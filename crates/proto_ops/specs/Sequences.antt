@@ -1,18 +1,7 @@
 -- What the rows of `+` and `*` say, which join and repeat sequences where no number's operator serves.
-use Rattle.std.specs.Prelude.{ℕ, zero, suc, ℤ, Bool, cond, ◌&&◌, is_some, [], ◌∷◌, Option, Some, None}
-use Rattle.std.specs.Option.{option_or}
-use Rattle.py_node.specs.declared.refs.PyObjectRef.{PyObjectRef}
-use Rattle.py_node.specs.declared.raised.Cause.TheVariants.{UnsupportedOperand, NotConcatenable, NotRepeatable}
-use Rattle.py_node.specs.declared.entry.SlotId.TheVariants.{SeqItem, Concat, Repeat, InplaceConcat, InplaceRepeat}
-use Rattle.py_node.specs.declared.entry.SlotEntry.{SlotEntry}
-use Rattle.py_node.specs.declared.entry.SlotEntry.TheVariants.{Native}
+use Rattle.proto_ops.specs.Below.{ℕ, zero, suc, ℤ, Bool, cond, is_some, [], Option, Some, None, option_or, PyObjectRef, UnsupportedOperand, NotConcatenable, NotRepeatable, SeqItem, Concat, Repeat, InplaceConcat, InplaceRepeat, SlotEntry, Native, ANumber, PlainWorld, PlainTask, DoBinOp1, DoInplaceOp1, DoConcat, DoInplaceConcat, DoRepeat, DoInplaceRepeat, DoNativeRepeat, DoIndex, ToOperator, ToProtocol, Ended, Said, Asks, Ends, Chose, slot_at, with_node, next_node, the_int, native_task, Row, start, fork, ask, pass, end, fault, or_else, on_count}
+use Rattle.std.specs.Prelude.{◌&&◌, ◌∷◌}
 use Rattle.py_node.specs.declared.task.PyNumberBinaryOp.TheVariants as op
-use Rattle.plain_machine.specs.Plain.{ANumber, PlainWorld, PlainTask, DoBinOp1, DoInplaceOp1, DoConcat, DoInplaceConcat, DoRepeat, DoInplaceRepeat, DoNativeRepeat, DoIndex, ToOperator, ToProtocol, Ended, Said, Asks, Ends, Chose}
-use Rattle.plain_machine.specs.World.{slot_at, with_node, next_node}
-use Rattle.plain_machine.specs.Known.{the_int}
-use Rattle.plain_machine.specs.Native.{native_task}
-use Rattle.plain_machine.specs.Row.{Row, start, fork, ask, pass, end, fault, or_else}
-use Rattle.native_base.specs.Repeats.{on_count}
 
 -- joining
 

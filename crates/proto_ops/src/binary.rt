@@ -1,13 +1,8 @@
 //! The operators of two numbers, plain and in place, and those of one.
 
-ghost use Rattle.std.specs.Prelude.{◌≡◌, Some, None};
-ghost use Rattle.py_node.specs.Operators.{operator_row};
-ghost use Rattle.py_node.specs.Known.{known_text};
+ghost use Rattle.proto_ops.specs.Below.{Some, None, operator_row, known_text, special_at, of_operator_task, of_step, Reading, Reads, plain, AllHold, Holds, IsNode};
+ghost use Rattle.std.specs.Prelude.{◌≡◌};
 ghost use Rattle.py_node.specs.declared.task.OperatorTask.TheVariants as operator;
-ghost use Rattle.plain_machine.specs.Objects.{special_at};
-ghost use Rattle.class_world.specs.Claims.{of_operator_task, of_step};
-ghost use Rattle.class_world.specs.Reading.{Reading, Reads, plain};
-ghost use Rattle.class_world.specs.Sound.{AllHold, Holds, IsNode};
 ghost use Rattle.proto_ops.specs.Binary.{slot_in_place, unary_name};
 ghost use Rattle.proto_ops.specs.Rows.{Begins, GoesOn, of_operator_kept};
 

@@ -1,12 +1,8 @@
 //! How an operator's entry is entered with its operands.
 
-ghost use Rattle.std.specs.Prelude.{◌≡◌, ◌∷◌, [], IfOk, option_map};
-ghost use Rattle.py_node.specs.Slots.{names_of};
+ghost use Rattle.proto_ops.specs.Below.{[], IfOk, option_map, names_of, of_operator_task, of_task, Leaves, Held, Reading, Reads, task_of, AllHold, AreNodes, Holds, IsNode, of_option};
+ghost use Rattle.std.specs.Prelude.{◌≡◌, ◌∷◌};
 ghost use Rattle.py_node.specs.declared.task.OperatorTask.TheVariants as operator;
-ghost use Rattle.class_world.specs.Claims.{of_operator_task, of_task, Leaves};
-ghost use Rattle.class_world.specs.Held.{Held};
-ghost use Rattle.class_world.specs.Reading.{Reading, Reads, task_of};
-ghost use Rattle.class_world.specs.Sound.{AllHold, AreNodes, Holds, IsNode, of_option};
 ghost use Rattle.proto_ops.specs.Binary.{in_order, method_of};
 ghost use Rattle.proto_ops.specs.Powers.{modulus};
 ghost use Rattle.proto_ops.specs.Rows.{Begins, of_operator_kept};

@@ -1,10 +1,8 @@
 //! The natives of `int` that stand in this group.
 
-ghost use Rattle.std.specs.Prelude.{◌≡◌, IfOk};
+ghost use Rattle.proto_ops.specs.Below.{IfOk, two_of, of_operator_task, Leaves, AllHold, Holds, IsNode};
+ghost use Rattle.std.specs.Prelude.{◌≡◌};
 ghost use Rattle.py_node.specs.declared.task.OperatorTask.TheVariants as operator;
-ghost use Rattle.plain_machine.specs.Args.{two_of};
-ghost use Rattle.class_world.specs.Claims.{of_operator_task, Leaves};
-ghost use Rattle.class_world.specs.Sound.{AllHold, Holds, IsNode};
 ghost use Rattle.proto_ops.specs.Rows.{Begins, Sums, of_operator_kept};
 ghost use Rattle.proto_ops.specs.Say.{total};
 

@@ -1,10 +1,8 @@
 //! Sums and joined sequences.
 
-ghost use Rattle.std.specs.Prelude.{◌≡◌, ◌&&◌, IfOk};
+ghost use Rattle.proto_ops.specs.Below.{IfOk, of_operator_task, of_step, Leaves, Reading, Reads, plain, AllHold, Holds, IsNode};
+ghost use Rattle.std.specs.Prelude.{◌≡◌, ◌&&◌};
 ghost use Rattle.py_node.specs.declared.task.OperatorTask.TheVariants as operator;
-ghost use Rattle.class_world.specs.Claims.{of_operator_task, of_step, Leaves};
-ghost use Rattle.class_world.specs.Reading.{Reading, Reads, plain};
-ghost use Rattle.class_world.specs.Sound.{AllHold, Holds, IsNode};
 ghost use Rattle.proto_ops.specs.Sequences.{inplace_concat_slot, is_sequence};
 ghost use Rattle.proto_ops.specs.Rows.{Begins, GoesOn, of_operator_kept};
 

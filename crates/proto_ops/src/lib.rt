@@ -1,29 +1,31 @@
-//! The rows of operators, each a small automaton: `begin` and `resume`.
+//! Operators, comparisons and numbers.
+//!
+//! At the root: the rows of operators, each a small automaton: `begin` and `resume`.
 #![tactic(auto, unfolding(crate::specs::Say::operator_say))]
 
-ghost use Rattle.std.specs.Prelude.{◌≡◌, IfOk};
-ghost use Rattle.class_world.specs.Sound.{AllHold};
-ghost use Rattle.class_world.specs.Claims.{of_operator_task, of_ended, of_step, Leaves};
-ghost use Rattle.class_world.specs.Reading.{ended_of};
-ghost use Rattle.plain_machine.specs.Row.{is_not_implemented};
+ghost use Rattle.proto_ops.specs.Below.{IfOk, AllHold, of_operator_task, of_ended, of_step, Leaves, ended_of, is_not_implemented};
+ghost use Rattle.std.specs.Prelude.{◌≡◌};
 ghost use Rattle.proto_ops.specs.Rows.{Begins, Resumes, GoesOn, is_unserved, of_operator_kept, of_otherwise};
 
 mod binary;
 mod enter;
 mod int;
 mod joins;
+pub mod native_numbers;
+pub mod native_repeats;
 mod powers;
+pub mod proto_compare;
 mod repeats;
 
+use crate::native_repeats::native_repeat;
 use binary::{
     begin_binary, begin_binop1, begin_inplace, begin_inplace_op1, begin_unary, next_candidate,
     plain_operator,
 };
-use class_world::{Fixed, World};
+use class_world::World;
 use enter::{begin_enter, begin_enter_power};
 use int::begin_int;
 use joins::{begin_add, begin_concat, begin_inplace_add, begin_inplace_concat, inplace_join, join};
-use native_repeats::native_repeat;
 use powers::{Tried, begin_inplace_power, begin_power, plain_power, power_last, power_next};
 use py_node::{
     Answer, Cause, OperatorTask, OutOfMemory, PyNumberBinaryOp, PyObjectRef, Raised, SlotEntry,
@@ -33,6 +35,7 @@ use repeats::{
     begin_inplace_mul, begin_inplace_repeat, begin_mul, begin_repeat, inplace_repeat_one,
     inplace_times, repeat_one, times,
 };
+use row_kit::questions::is_not_implemented;
 
 /// What is done where what was asked is not for its operands.
 #[derive(Drop)]
@@ -147,13 +150,6 @@ fn is_unserved(answer: &Result<Answer, Raised>) -> bool
         Ok(Answer::Value(object)) => is_not_implemented(*object),
         _ => false,
     }
-}
-
-// Whether an object is NotImplemented.
-fn is_not_implemented(object: PyObjectRef) -> bool
-    ensures { result ≡ is_not_implemented object }
-{
-    object.0 == Fixed::NotImplemented.node().0
 }
 
 // What is done where what was asked is not for its operands.

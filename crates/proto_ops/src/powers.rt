@@ -1,11 +1,8 @@
 //! Powers, which have a third operand: a modulus, or None.
 
-ghost use Rattle.std.specs.Prelude.{◌≡◌, Some, None, length, ◌==◌, ◌&&◌, not};
+ghost use Rattle.proto_ops.specs.Below.{Some, None, length, not, of_operator_task, of_step, Reading, Reads, plain, AllHold, Holds, IsNode, class_at, slot_at};
+ghost use Rattle.std.specs.Prelude.{◌≡◌, ◌==◌, ◌&&◌};
 ghost use Rattle.py_node.specs.declared.task.OperatorTask.TheVariants as operator;
-ghost use Rattle.class_world.specs.Claims.{of_operator_task, of_step};
-ghost use Rattle.class_world.specs.Reading.{Reading, Reads, plain};
-ghost use Rattle.class_world.specs.Sound.{AllHold, Holds, IsNode};
-ghost use Rattle.plain_machine.specs.World.{class_at, slot_at};
 ghost use Rattle.py_node.specs.declared.entry.SlotId.TheVariants as slot;
 ghost use Rattle.proto_ops.specs.Powers.{third_of};
 ghost use Rattle.proto_ops.specs.Rows.{Begins, GoesOn, entries_of, of_operator_kept, way_of};

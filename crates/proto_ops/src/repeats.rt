@@ -1,21 +1,16 @@
 //! Products and repeated sequences.
 
-ghost use Rattle.std.specs.Prelude.{◌≡◌, Ok, IfOk};
+ghost use Rattle.proto_ops.specs.Below.{Ok, IfOk, the_int, ANumber, next_node, with_node, of_operator_task, of_step, Leaves, Reading, Reads, plain, AllHold, Grows, Holds, IsNode};
+ghost use Rattle.std.specs.Prelude.{◌≡◌};
 ghost use Rattle.py_node.specs.declared.protocol.ProtocolTask.TheVariants as protocol;
 ghost use Rattle.py_node.specs.declared.task.OperatorTask.TheVariants as operator;
-ghost use Rattle.plain_machine.specs.Known.{the_int};
-ghost use Rattle.plain_machine.specs.Plain.{ANumber};
-ghost use Rattle.plain_machine.specs.World.{next_node, with_node};
-ghost use Rattle.class_world.specs.Claims.{of_operator_task, of_step, Leaves};
-ghost use Rattle.class_world.specs.Reading.{Reading, Reads, plain};
-ghost use Rattle.class_world.specs.Sound.{AllHold, Grows, Holds, IsNode};
 ghost use Rattle.proto_ops.specs.Sequences.{inplace_repeat_slot};
 ghost use Rattle.proto_ops.specs.Rows.{Begins, GoesOn, Resumes, of_operator_kept};
 
 use crate::joins::is_sequence;
+use crate::native_repeats::count_in;
 use crate::{OperatorKept, Otherwise};
 use class_world::World;
-use native_repeats::count_in;
 use py_node::protocol::ProtocolTask;
 use py_node::{
     Answer, BuiltIn, Cause, OperatorTask, OutOfMemory, Payload, PyNumberBinaryOp, PyObjectRef,

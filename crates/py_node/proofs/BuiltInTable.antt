@@ -1,10 +1,8 @@
 -- The table of built-in classes has a row for each class, at its place.
-use Rattle.std.proofs.Common.{◌≡◌, ◌<◌, true, refl, nat_lt}
-use Rattle.std.specs.Prelude.{slice_get, Some}
+use Rattle.py_node.proofs.Below.{true, refl, nat_lt, slice_get, Some, BuiltIn, Object, all_built_ins, built_in_count}
+use Rattle.std.proofs.Common.{◌≡◌, ◌<◌}
 use borrow.Author.Tests.{ltb-true}
-use Rattle.py_node.specs.declared.built_in.BuiltIn.{BuiltIn}
-use Rattle.py_node.specs.declared.built_in.BuiltIn.TheVariants.{Object}
-use Rattle.py_node.specs.BuiltIns.{all_built_ins, built_in_count, place_of}
+use Rattle.py_node.specs.BuiltIns.{place_of}
 
 below-test : (b : BuiltIn) → nat_lt (place_of b) built_in_count ≡ true
 unfolding place_of

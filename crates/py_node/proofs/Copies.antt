@@ -1,12 +1,6 @@
 -- An expression with entries stands for the tree that its names and parts say.
-use Rattle.std.proofs.Common.{◌≡◌, List, [], ◌∷◌, map, String, string_bytes, refl, rules, sym, ap, ◌∙◌}
-use Rattle.std.specs.declared.alloc.Global.{Global}
-use Rattle.std.specs.Global.{Box}
-use Rattle.py_node.specs.declared.expr.CallParts.{CallParts}
-use Rattle.py_node.specs.declared.expr.ClassParts.{ClassParts}
-use Rattle.py_node.specs.declared.expr.Expr.{Expr, the_lemmas}
-use Rattle.py_node.specs.declared.expr.Expr.TheViews.{Call, Class}
-use Rattle.py_node.specs.Tree.{Text, Tree, TCall, TClass, Entries, no_entries, entry, entries_of, trees_of, tree_of, part_of}
+use Rattle.py_node.proofs.Below.{List, [], map, String, string_bytes, refl, rules, sym, ap, ◌∙◌, Global, Box, CallParts, ClassParts, Expr, the_lemmas, Call, Class, Text, Tree, TCall, TClass, Entries, no_entries, entry, entries_of, trees_of, tree_of, part_of}
+use Rattle.std.proofs.Common.{◌≡◌, ◌∷◌}
 
 entries_by : List (Text × Tree) → Entries
 entries_by [] = no_entries

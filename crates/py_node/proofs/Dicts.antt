@@ -1,11 +1,6 @@
 -- Dicts: a value that is written over, and one more key.
-use Rattle.std.proofs.Common.{◌≡◌, ℕ, zero, suc, ◌+◌, ◌<◌, Bool, true, false, ◌||◌, cond, if◌then◌else◌, List, [], ◌∷◌, ◌++◌, length, get_or, Some, None, refl, sym, ap, ◌∙◌, arith}
-use Rattle.std.specs.Prelude.{slice_set, position}
-use Rattle.std.specs.List.{list_any, position_from}
-use Rattle.std.proofs.lemmas.Iterator.Adapters.{position_from-zero}
-use Rattle.indexmap.specs.IndexSet.{insert_key}
-use Rattle.py_node.specs.declared.refs.PyObjectRef.{PyObjectRef}
-use Rattle.py_node.specs.Dicts.{put_at}
+use Rattle.py_node.proofs.Below.{ℕ, zero, suc, Bool, true, false, cond, List, [], length, get_or, None, refl, sym, ap, ◌∙◌, arith, slice_set, position, list_any, position_from, position_from-zero, insert_key, PyObjectRef, put_at}
+use Rattle.std.proofs.Common.{◌≡◌, ◌+◌, ◌<◌, ◌||◌, if◌then◌else◌, ◌∷◌, ◌++◌, Some}
 
 -- an entry that is written over
 pub put-is : (es : List (PyObjectRef × PyObjectRef)) (n : ℕ) (e : PyObjectRef × PyObjectRef) (v : PyObjectRef) → n < length es → e ≡ get_or es n e → slice_set es n (e.0, v) ≡ put_at es n v

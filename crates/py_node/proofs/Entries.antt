@@ -1,11 +1,6 @@
 -- Names with values: the words of the map are those of the attributes.
-use Rattle.std.proofs.Common.{subst, arith, ◌≡◌, ℕ, zero, suc, Bool, true, false, cond, eqb, List, [], ◌∷◌, take, slice_get, Some, refl, sym, ap, ◌∙◌}
-use Rattle.std.proofs.lemmas.Bool.{eqb-true}
-use Rattle.std.specs.List.{AllByRecursion, IsDistinct}
-use Rattle.std.specs.Map.{keys_of}
-use Rattle.indexmap.specs.IndexMap.{insert_entry, shift_remove_entry}
-use Rattle.py_node.specs.declared.refs.PyStrInterned.{PyStrInterned}
-use Rattle.py_node.specs.Attributes.{with_value, without_key, is_same_name, AreNamesDistinct}
+use Rattle.py_node.proofs.Below.{subst, arith, ℕ, zero, suc, Bool, true, false, cond, eqb, List, [], take, refl, sym, ap, ◌∙◌, eqb-true, AllByRecursion, IsDistinct, keys_of, insert_entry, shift_remove_entry, PyStrInterned, with_value, without_key, is_same_name, AreNamesDistinct}
+use Rattle.std.proofs.Common.{◌≡◌, ◌∷◌, slice_get, Some}
 
 same_turned : (a b : PyStrInterned) → is_same_name a b ≡ is_same_name b a
 same_turned a b = grind arith

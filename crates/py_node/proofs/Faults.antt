@@ -1,11 +1,7 @@
 -- The tables of faults have a row for each kind and each cause.
-use Rattle.std.proofs.Common.{◌≡◌, ◌<◌, true, refl, nat_lt}
+use Rattle.py_node.proofs.Below.{true, refl, nat_lt, Kind, TypeError, Cause, DuplicateBase, kind_place, cause_place}
+use Rattle.std.proofs.Common.{◌≡◌, ◌<◌}
 use borrow.Author.Tests.{ltb-true}
-use Rattle.py_node.specs.declared.raised.Kind.{Kind}
-use Rattle.py_node.specs.declared.raised.Kind.TheVariants.{TypeError}
-use Rattle.py_node.specs.declared.raised.Cause.{Cause}
-use Rattle.py_node.specs.declared.raised.Cause.TheVariants.{DuplicateBase}
-use Rattle.py_node.specs.Faults.{kind_place, cause_place}
 
 kind-test : (k : Kind) → nat_lt (kind_place k) 12 ≡ true
 kind-test TypeError = refl

@@ -1,11 +1,8 @@
 -- The table of names has a row for each name, at its place, and no text stands twice.
-use Rattle.std.proofs.Common.{◌≡◌, ◌<◌, true, length, refl, nat_lt}
-use Rattle.std.specs.Prelude.{slice_get, Some, option_map}
+use Rattle.py_node.proofs.Below.{true, length, refl, nat_lt, slice_get, Some, option_map, Known, KNOWN, known_texts, number_of}
+use Rattle.std.proofs.Common.{◌≡◌, ◌<◌}
 use borrow.Author.Tests.{ltb-true}
-use Rattle.py_node.specs.declared.known.Known.{Known}
 use Rattle.py_node.specs.declared.known.Known.TheVariants.{Add}
-use Rattle.py_node.specs.declared.known.TheConstants.{KNOWN}
-use Rattle.py_node.specs.Known.{known_texts, number_of}
 
 below-test : (x : Known) → nat_lt (number_of x) 130 ≡ true
 unfolding number_of

@@ -1,3 +1,5 @@
+pub mod Lemmas
+pub mod Below
 pub mod Copies
 pub mod Entries
 pub mod Texts

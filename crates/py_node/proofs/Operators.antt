@@ -1,11 +1,8 @@
 -- The table of operators has a row for each, at its place.
-use Rattle.std.proofs.Common.{◌≡◌, ◌<◌, true, refl, nat_lt}
+use Rattle.py_node.proofs.Below.{true, refl, nat_lt, the_type, PyNumberBinaryOp, Add, operators, operator_row}
+use Rattle.std.proofs.Common.{◌≡◌, ◌<◌}
 use denote.Enum.Declared.{tag_of}
 use borrow.Author.Tests.{ltb-true}
-use Rattle.py_node.specs.contracts.task.PyNumberBinaryOp.{the_type}
-use Rattle.py_node.specs.declared.task.PyNumberBinaryOp.{PyNumberBinaryOp}
-use Rattle.py_node.specs.declared.task.PyNumberBinaryOp.TheVariants.{Add}
-use Rattle.py_node.specs.Operators.{operators, operator_row}
 
 below-test : (o : PyNumberBinaryOp) → nat_lt (tag_of the_type o) 13 ≡ true
 below-test Add = refl

@@ -1,12 +1,8 @@
 -- The tables of slots have a row for each slot, at its place.
-use Rattle.std.proofs.Common.{◌≡◌, ◌<◌, ◌≤◌, ◌++◌, ◌-◌, ◌∙◌, [], ℕ, Bool, ap, sym, subst, cond, true, false, refl, nat_lt}
-use Rattle.std.specs.Prelude.{slice_get, slice_index_or, Some, option_map}
-use Rattle.std.proofs.lemmas.Bool.{lt-ltb, le-ltb}
+use Rattle.py_node.proofs.Below.{◌∙◌, [], ℕ, Bool, ap, sym, subst, cond, true, false, refl, nat_lt, slice_get, slice_index_or, Some, option_map, lt-ltb, le-ltb, SlotId, NUMBER_SPECIAL, OTHER_SPECIAL, FILLINGS, place_of, all_slots, slot_count, number_names, other_names, slot_names, names_of}
+use Rattle.std.proofs.Common.{◌≡◌, ◌<◌, ◌≤◌, ◌++◌, ◌-◌}
 use borrow.Author.Tests.{ltb-true}
-use Rattle.py_node.specs.declared.entry.SlotId.{SlotId}
 use Rattle.py_node.specs.declared.entry.SlotId.TheVariants.{Add}
-use Rattle.py_node.specs.declared.slots.TheConstants.{NUMBER_SPECIAL, OTHER_SPECIAL, FILLINGS}
-use Rattle.py_node.specs.Slots.{place_of, all_slots, slot_count, number_names, other_names, slot_names, names_of}
 
 below-test : (s : SlotId) → nat_lt (place_of s) slot_count ≡ true
 unfolding place_of

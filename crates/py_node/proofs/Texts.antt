@@ -1,10 +1,6 @@
 -- Texts in a table: one more at the end, and what a look-up says.
-use Rattle.std.proofs.Common.{◌≡◌, ℕ, zero, suc, ◌⊎◌, inl, inr, Bool, true, false, ◌||◌, cond, if◌then◌else◌, List, [], ◌∷◌, ◌++◌, map, length, slice_get, Some, refl, sym, ap, ◌∙◌, true≢false}
-use Rattle.std.specs.List.{find, list_any}
-use Rattle.std.specs.Str.{bytes_eq}
-use Rattle.std.proofs.lemmas.Slice.Eq.{bytes_eq-Decides}
-use Rattle.indexmap.specs.IndexSet.{insert_key}
-use Rattle.py_node.specs.Texts.{AreDistinct, Stands}
+use Rattle.py_node.proofs.Below.{ℕ, zero, suc, inl, inr, Bool, true, false, cond, List, [], map, length, refl, sym, ap, ◌∙◌, true≢false, find, list_any, bytes_eq, bytes_eq-Decides, insert_key, AreDistinct, Stands}
+use Rattle.std.proofs.Common.{◌≡◌, ◌⊎◌, ◌||◌, if◌then◌else◌, ◌∷◌, ◌++◌, slice_get, Some}
 
 module _ {X : Type 0} where
   -- a list keeps its items where more come behind

@@ -1,7 +1,6 @@
 -- Names with values, in the order in which the names came.
-use Rattle.std.specs.Prelude.{Bool, cond, eqb, List, [], ◌∷◌, Option, Some, None}
-use Rattle.std.specs.List.{IsDistinct}
-use Rattle.std.specs.Map.{keys_of}
+use Rattle.py_node.specs.Below.{Bool, cond, eqb, List, [], Option, Some, None, IsDistinct, keys_of}
+use Rattle.std.specs.Prelude.{◌∷◌}
 use Rattle.py_node.specs.declared.refs.PyStrInterned.{PyStrInterned}
 
 -- the value of the first name that passes the test

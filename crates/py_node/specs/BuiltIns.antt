@@ -1,5 +1,6 @@
 -- The built-in classes: their places, names, bases and flags. The fixed objects, and how many there are of both.
-use Rattle.std.specs.Prelude.{ℕ, ◌+◌, ◌^◌, Bool, true, false, List, [], map, Option, None, option_map, slice_index_or}
+use Rattle.py_node.specs.Below.{ℕ, Bool, true, false, List, [], map, Option, None, option_map, slice_index_or}
+use Rattle.std.specs.Prelude.{◌+◌, ◌^◌}
 use denote.Enum.Declared.{tag_of}
 use Rattle.py_node.specs.contracts.built_in.BuiltIn.{the_type}
 use Rattle.py_node.specs.declared.built_in.BuiltIn.{BuiltIn}

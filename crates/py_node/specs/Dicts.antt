@@ -1,7 +1,6 @@
 -- Dicts: their keys, and beside each its object and its value, in the order in which the keys came.
-use Rattle.std.specs.Prelude.{ℕ, Bool, false, eqb, List, [], ◌∷◌, ◌++◌, take, drop}
-use Rattle.std.specs.List.{remove}
-use Rattle.std.specs.Ordering.{int_eq}
+use Rattle.py_node.specs.Below.{ℕ, Bool, false, eqb, List, [], take, drop, remove, int_eq}
+use Rattle.std.specs.Prelude.{◌∷◌, ◌++◌}
 use Rattle.py_node.specs.declared.refs.PyObjectRef.{PyObjectRef}
 use Rattle.py_node.specs.declared.dict.PyDictKey.{PyDictKey}
 use Rattle.py_node.specs.declared.dict.PyDictKey.TheVariants as key

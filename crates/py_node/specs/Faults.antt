@@ -1,5 +1,5 @@
 -- The kinds and causes of faults, with their words, as their tables have them.
-use Rattle.std.specs.Prelude.{ℕ, List, [], map, slice_index_or}
+use Rattle.py_node.specs.Below.{ℕ, List, [], map, slice_index_or}
 use denote.Enum.Declared.{tag_of}
 use Rattle.py_node.specs.contracts.raised.Kind.{the_type as kinds}
 use Rattle.py_node.specs.contracts.raised.Cause.{the_type as causes}

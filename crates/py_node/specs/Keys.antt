@@ -1,7 +1,5 @@
 -- The keys that an index of keys holds.
-use Rattle.std.specs.Prelude.{List, [], Option, None, Some}
-use Rattle.std.specs.Global.{Box}
-use Rattle.std.specs.HashSet.{HashSet}
+use Rattle.py_node.specs.Below.{List, [], Option, None, Some, Box, HashSet}
 use Rattle.py_node.specs.declared.dict.PyDictKey.{PyDictKey}
 
 -- those of a set, if there is one

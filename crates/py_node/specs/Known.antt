@@ -1,5 +1,5 @@
 -- The names that every world knows, in the order of their numbers.
-use Rattle.std.specs.Prelude.{ℕ, List, [], map, slice_index_or}
+use Rattle.py_node.specs.Below.{ℕ, List, [], map, slice_index_or}
 use denote.Enum.Declared.{tag_of}
 use Rattle.py_node.specs.contracts.known.Known.{the_type}
 use Rattle.py_node.specs.declared.known.Known.{Known}

@@ -1,3 +1,4 @@
+pub mod Below
 pub mod Slots
 pub mod Natives
 pub mod Faults

@@ -1,5 +1,5 @@
 -- The numbers of the kinds of members.
-use Rattle.std.specs.Prelude.{ℕ}
+use Rattle.py_node.specs.Below.{ℕ}
 use Rattle.py_node.specs.declared.payload.MemberKind.{MemberKind}
 use Rattle.py_node.specs.declared.payload.MemberKind.TheVariants as kind
 

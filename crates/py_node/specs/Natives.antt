@@ -1,5 +1,6 @@
 -- When two natives, or two entries of slots, are the same.
-use Rattle.std.specs.Prelude.{Bool, false, true, ◌&&◌}
+use Rattle.py_node.specs.Below.{Bool, false, true}
+use Rattle.std.specs.Prelude.{◌&&◌}
 use denote.Enum.Bare.{sameb}
 use Rattle.py_node.specs.contracts.entry.ObjectNative.{the_type as object_type}
 use Rattle.py_node.specs.contracts.entry.TypeNative.{the_type as type_type}

@@ -1,6 +1,6 @@
 -- The slots of the binary operators.
-use Rattle.std.specs.Prelude.{Bool, ◌||◌, List, Option, None, slice_index_or}
-use Rattle.std.specs.List.{list_any}
+use Rattle.py_node.specs.Below.{Bool, List, Option, None, slice_index_or, list_any}
+use Rattle.std.specs.Prelude.{◌||◌}
 use denote.Enum.Declared.{tag_of}
 use Rattle.py_node.specs.contracts.task.PyNumberBinaryOp.{the_type}
 use Rattle.py_node.specs.declared.entry.SlotId.{SlotId}

@@ -1,5 +1,5 @@
 -- The own attributes of the built-in classes.
-use Rattle.std.specs.Prelude.{List}
+use Rattle.py_node.specs.Below.{List}
 use Rattle.py_node.specs.declared.built_in.BuiltIn.{BuiltIn}
 use Rattle.py_node.specs.declared.built_in.BuiltIn.TheVariants as built_in
 use Rattle.py_node.specs.declared.known.Known.{Known}

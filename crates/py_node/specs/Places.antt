@@ -1,5 +1,5 @@
 -- The members of an object: what stands at the offsets of its places.
-use Rattle.std.specs.Prelude.{ℕ, List, Option, None, option_and_then, replicate, slice_get}
+use Rattle.py_node.specs.Below.{ℕ, List, Option, None, option_and_then, replicate, slice_get}
 use Rattle.py_node.specs.declared.refs.PyObjectRef.{PyObjectRef}
 
 -- what stands at an offset, unless that place is empty. Past the last place nothing stands

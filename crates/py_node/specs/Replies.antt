@@ -1,5 +1,5 @@
 -- Replies, with texts for the strings of the code.
-use Rattle.std.specs.Prelude.{List, map, string_bytes}
+use Rattle.py_node.specs.Below.{List, map, string_bytes}
 use Rattle.py_node.specs.declared.raised.Raised.{Raised as Fault}
 use Rattle.py_node.specs.declared.refs.PyObjectRef.{PyObjectRef}
 use Rattle.py_node.specs.declared.reply.BodyCall.{BodyCall}

@@ -1,5 +1,6 @@
 -- The slots: their places, printed names and special names, and how they are read.
-use Rattle.std.specs.Prelude.{ℕ, Bool, List, [], map, ◌++◌, slice_index_or}
+use Rattle.py_node.specs.Below.{ℕ, Bool, List, [], map, slice_index_or}
+use Rattle.std.specs.Prelude.{◌++◌}
 use denote.Enum.Bare.{sameb}
 use denote.Enum.Declared.{tag_of}
 use Rattle.py_node.specs.contracts.entry.SlotId.{the_type}

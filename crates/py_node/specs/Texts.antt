@@ -1,5 +1,6 @@
 -- Texts in a table.
-use Rattle.std.specs.Prelude.{◌≡◌, ℕ, List, Some, slice_get}
+use Rattle.py_node.specs.Below.{ℕ, List, Some, slice_get}
+use Rattle.std.specs.Prelude.{◌≡◌}
 
 -- no text stands twice
 abbrev pub AreDistinct : List (List ℕ) → Type 0

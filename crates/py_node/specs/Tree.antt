@@ -1,6 +1,6 @@
 -- The expressions of scripts, as trees, with texts for the strings of the code.
-use Rattle.std.specs.Prelude.{ℕ, ℤ, Bool, List, [], ◌∷◌, map, String, string_bytes}
-use Rattle.std.specs.declared.alloc.Global.{Global}
+use Rattle.py_node.specs.Below.{ℕ, ℤ, Bool, List, [], map, String, string_bytes, Global}
+use Rattle.std.specs.Prelude.{◌∷◌}
 use Rattle.py_node.specs.declared.expr.Constant.{Constant}
 use Rattle.py_node.specs.declared.expr.Constant.TheVariants.{None, False, True, Int, Str}
 use Rattle.py_node.specs.declared.expr.Word.{Word}

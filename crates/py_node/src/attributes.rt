@@ -1,6 +1,7 @@
 //! The attributes of an object or a class: names with values, in the order in which they came.
 
-ghost use Rattle.std.specs.Prelude.{◌≡◌, ◌<◌, [], length, is_some, Some, slice_get, IfOk, OnOk, OnErr};
+ghost use Rattle.py_node.specs.Below.{[], length, is_some, Some, slice_get, IfOk, OnOk, OnErr};
+ghost use Rattle.std.specs.Prelude.{◌≡◌, ◌<◌};
 ghost use Rattle.py_node.specs.Attributes.{value_of, with_value, without_key, is_same_name, AreNamesDistinct};
 
 use crate::memory::OutOfMemory;

@@ -1,6 +1,7 @@
 //! The built-in classes, as data: a class's place is the number of its case.
 
-ghost use Rattle.std.specs.Prelude.{◌≡◌, ◌<◌, map, length, option_map, slice_get, Some};
+ghost use Rattle.py_node.specs.Below.{map, length, option_map, slice_get, Some};
+ghost use Rattle.std.specs.Prelude.{◌≡◌, ◌<◌};
 ghost use Rattle.py_node.specs.BuiltIns.{all_built_ins, built_in_names, built_in_bases, built_in_flags, built_in_count, place_of, name_of, base_of, flags_of};
 
 use crate::flags::PyTypeFlags;

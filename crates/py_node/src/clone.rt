@@ -1,6 +1,7 @@
 //! Copies of expressions, commands and replies, which stand for the same trees and replies.
 
-ghost use Rattle.std.specs.Prelude.{◌≡◌, map, string_bytes, IfOk};
+ghost use Rattle.py_node.specs.Below.{map, string_bytes, IfOk};
+ghost use Rattle.std.specs.Prelude.{◌≡◌};
 ghost use Rattle.py_node.specs.Tree.{literal_of, texts_of, tree_of, part_of, pair_of};
 ghost use Rattle.py_node.specs.Replies.{reply_of, started_of, reply_answer_of};
 

@@ -1,6 +1,7 @@
 //! Dicts: keys with their values, in the order in which the keys came. A key is found by hash.
 
-ghost use Rattle.std.specs.Prelude.{◌≡◌, ◌<◌, length, position, None, IfOk, IfSome, OnOk, OnErr};
+ghost use Rattle.py_node.specs.Below.{length, position, None, IfOk, IfSome, OnOk, OnErr};
+ghost use Rattle.std.specs.Prelude.{◌≡◌, ◌<◌};
 ghost use Rattle.py_node.specs.Dicts.{dict_pushed, dict_put, dict_removed, empty_dict, is_same_key};
 
 use crate::key_index::KeyIndex;

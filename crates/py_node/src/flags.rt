@@ -1,7 +1,7 @@
 //! The flags of classes and of native methods.
 
-ghost use Rattle.std.specs.Prelude.{⊤, ◌+◌, ◌≡◌, ◌==◌, [], ◌∷◌, codes};
-ghost use Rattle.std.specs.Int.RustNames.{bit_and};
+ghost use Rattle.py_node.specs.Below.{⊤, [], codes, bit_and};
+ghost use Rattle.std.specs.Prelude.{◌+◌, ◌≡◌, ◌==◌, ◌∷◌};
 ghost use Rattle.py_node.specs.BuiltIns.{heap_type, base_type, heap_flags};
 
 use bitflags::{Flag, Flags, bitflag_items};

@@ -1,7 +1,7 @@
 //! The keys of a dict by hash.
 
-ghost use Rattle.std.specs.Prelude.{◌≡◌, ◌<◌, [], ◌∷◌, ◌++◌, length, position, None, IfOk, IfSome, OnOk, OnErr};
-ghost use Rattle.std.specs.List.{remove};
+ghost use Rattle.py_node.specs.Below.{[], length, position, None, IfOk, IfSome, OnOk, OnErr, remove};
+ghost use Rattle.std.specs.Prelude.{◌≡◌, ◌<◌, ◌∷◌, ◌++◌};
 ghost use Rattle.py_node.specs.Dicts.{is_same_key};
 
 use crate::dict::PyDictKey;

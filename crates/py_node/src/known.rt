@@ -1,6 +1,7 @@
 //! The names that every world knows: those of special methods, and all others that a rule or a table names.
 
-ghost use Rattle.std.specs.Prelude.{◌≡◌, ◌<◌, map, length};
+ghost use Rattle.py_node.specs.Below.{map, length};
+ghost use Rattle.std.specs.Prelude.{◌≡◌, ◌<◌};
 ghost use Rattle.py_node.specs.Known.{known_texts, known_text, number_of};
 
 use crate::refs::PyStrInterned;

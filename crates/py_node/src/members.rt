@@ -1,6 +1,7 @@
 //! The members of an object: what stands in its places, one after another.
 
-ghost use Rattle.std.specs.Prelude.{◌≡◌, ◌<◌, [], length, slice_set, IfOk};
+ghost use Rattle.py_node.specs.Below.{[], length, slice_set, IfOk};
+ghost use Rattle.std.specs.Prelude.{◌≡◌, ◌<◌};
 ghost use Rattle.py_node.specs.Places.{empty_places, value_at};
 
 use crate::memory::OutOfMemory;

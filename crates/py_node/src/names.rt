@@ -1,6 +1,7 @@
 //! The table of names: each text has one number, by which it is known from then on.
 
-ghost use Rattle.std.specs.Prelude.{◌≡◌, ◌<◌, ◌≤◌, ℕ, List, [], ◌∷◌, ◌++◌, length, Some, IsOk, IfOk, OnOk, OnErr, IfSome, IfNone, slice_get};
+ghost use Rattle.py_node.specs.Below.{ℕ, List, [], length, Some, IsOk, IfOk, OnOk, OnErr, IfSome, IfNone, slice_get};
+ghost use Rattle.std.specs.Prelude.{◌≡◌, ◌<◌, ◌≤◌, ◌∷◌, ◌++◌};
 ghost use Rattle.py_node.specs.Texts.{AreDistinct, Stands};
 
 use crate::memory::OutOfMemory;

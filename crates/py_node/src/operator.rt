@@ -1,6 +1,7 @@
 //! The binary operators and their slots.
 
-ghost use Rattle.std.specs.Prelude.{◌≡◌, ◌<◌, length};
+ghost use Rattle.py_node.specs.Below.{length};
+ghost use Rattle.std.specs.Prelude.{◌≡◌, ◌<◌};
 ghost use Rattle.py_node.specs.Operators.{operators as the_operators, operator_row, is_reflected, is_right};
 
 use crate::entry::SlotId;

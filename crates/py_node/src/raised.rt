@@ -1,6 +1,7 @@
 //! Faults: their kinds, their causes and the words for both.
 
-ghost use Rattle.std.specs.Prelude.{◌≡◌, ◌<◌, map, length};
+ghost use Rattle.py_node.specs.Below.{map, length};
+ghost use Rattle.std.specs.Prelude.{◌≡◌, ◌<◌};
 ghost use Rattle.py_node.specs.Faults.{kind_words, kind_place, kind_word, cause_rows, cause_place, cause_word, kind_of, raised};
 
 /// The kind of a fault: the exception that the language reference names.

@@ -1,6 +1,7 @@
 //! The slots: their printed names, how they are read, and the special names that fill them.
 
-ghost use Rattle.std.specs.Prelude.{◌≡◌, ◌<◌, Some, map, length, slice_get};
+ghost use Rattle.py_node.specs.Below.{Some, map, length, slice_get};
+ghost use Rattle.std.specs.Prelude.{◌≡◌, ◌<◌};
 ghost use Rattle.py_node.specs.Slots.{all_slots, slot_texts, slot_sorts, number_names, other_names, slot_fillings, slot_count, place_of, printed_name, sort_of, names_of, filling_of};
 
 use crate::entry::SlotId;

@@ -1,6 +1,7 @@
 //! Tasks, what they answer, and the steps of their rows.
 
-ghost use Rattle.std.specs.Prelude.{◌≡◌, Err};
+ghost use Rattle.py_node.specs.Below.{Err};
+ghost use Rattle.std.specs.Prelude.{◌≡◌};
 ghost use Rattle.py_node.specs.Faults.{raised};
 
 use crate::entry::{IntNative, NativeEntry, ObjectNative, SlotEntry, TypeNative};

@@ -1,15 +1,6 @@
 -- A set of texts, as its keys, and the texts from one on.
-use Rattle.std.proofs.Common.{◌≡◌, ℕ, zero, suc, ◌-◌, ◌<◌, ◌≤◌, List, [], ◌∷◌, length, get_or, drop, Bool, true, false, not, ◌||◌, ◌&&◌, Bor, Global, String, string_bytes, Ordering, Less, Equal, Greater, nat_cmp, is_eq, refl, ap, sym, ◌∙◌, arith, rules}
-use Rattle.std.proofs.Math.Seq.{drop-cons}
-use Rattle.std.proofs.lemmas.Map.Text.{is_eq-slice_cmp}
-use Rattle.std.proofs.lemmas.Slice.Eq.{bytes_eq-Decides}
-use Rattle.std.specs.Ordering.{match_ordering}
-use Rattle.std.specs.Cmp.Lexicographic.{slice_cmp}
-use Rattle.std.specs.List.{list_any}
-use Rattle.std.specs.Str.{bytes_eq}
-use Rattle.std.specs.BTreeSet.{insert_key}
-use Rattle.py_node.specs.Tree.{texts_of}
-use Rattle.script_text.specs.Forms.{all_differ}
+use Rattle.script_text.proofs.Below.{ℕ, zero, suc, List, [], length, get_or, drop, Bool, true, false, not, Bor, Global, String, string_bytes, Ordering, Less, Equal, Greater, nat_cmp, is_eq, refl, ap, sym, ◌∙◌, arith, rules, drop-cons, is_eq-slice_cmp, bytes_eq-Decides, match_ordering, slice_cmp, list_any, bytes_eq, insert_key, texts_of, all_differ}
+use Rattle.std.proofs.Common.{◌≡◌, ◌-◌, ◌<◌, ◌≤◌, ◌∷◌, ◌||◌, ◌&&◌}
 
 abbrev Key : Type 0
 Key = Bor (List ℕ)

@@ -1,6 +1,6 @@
 -- What is found in a list.
-use Rattle.std.proofs.Common.{◌≡◌, List, [], ◌∷◌, map, Bool, true, false, cond, Option, Some, option_map, refl}
-use Rattle.std.specs.List.{find}
+use Rattle.script_text.proofs.Below.{List, [], map, Bool, true, false, cond, Option, Some, option_map, refl, find}
+use Rattle.std.proofs.Common.{◌≡◌, ◌∷◌}
 
 found-or : {A B C : Type 0} (f : A → B) (g : B → C) (x : A) (o : Option A) (p : Option B) (b : Bool) → option_map (λ a. g (f a)) o ≡ option_map g p → option_map (λ a. g (f a)) (cond b (Some x) o) ≡ option_map g (cond b (Some (f x)) p)
 found-or f g x o p true h = refl

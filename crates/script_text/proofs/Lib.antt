@@ -1,6 +1,10 @@
+pub mod Lemmas
+pub mod Below
 pub mod Lists
 pub mod Distinct
 pub mod Found
 pub mod Told
 pub mod Nones
 pub mod Rows
+pub mod JsonText
+pub mod ReplyText

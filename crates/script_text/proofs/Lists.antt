@@ -1,20 +1,7 @@
 -- Lists that are read item by item.
-use Rattle.std.proofs.Common.{◌≡◌, ℕ, zero, suc, ◌+◌, ◌<◌, ◌≤◌, List, [], ◌∷◌, ◌++◌, length, get_or, drop, map, cond, true, Option, Some, None, Ok, ok_or, String, string_bytes, Vec, Box, Global, refl, ap, sym, ◌∙◌, arith, rules}
-use Rattle.std.proofs.lemmas.List.{length-map}
-use Rattle.serde_json.specs.Data.{depth, items_depth}
-use Rattle.serde_json.specs.View.{view, items_view}
-use Rattle.serde_json.specs.declared.value.Value.{Value}
-use Rattle.py_node.specs.declared.expr.CallParts.{CallParts}
-use Rattle.py_node.specs.declared.expr.ClassParts.{ClassParts}
-use Rattle.py_node.specs.declared.expr.Expr.{Expr, Call, Class, Op, the_lemmas}
-use Rattle.py_node.specs.declared.expr.Command.{Command}
-use Rattle.py_node.specs.declared.expr.Word.{Word}
-use Rattle.py_node.specs.Tree.{TCall, TClass, TOp, entry, entries_of, trees_of, tree_of, pair_of}
-use Rattle.script_text.specs.Forms.{expr_of, exprs_of, pair_in, pairs_in, entry_of, entries_in, named, named_entries, call, class, operation}
-use Rattle.json_text.proofs.Lists.{onto, turn}
-use Rattle.script_text.specs.Script.{command_trees}
-use Rattle.script_text.specs.Words.{allows}
-use Rattle.script_text.specs.declared.words.Arity.{Arity}
+use Rattle.script_text.proofs.Below.{ℕ, zero, suc, List, [], length, get_or, drop, map, cond, true, Option, Some, None, Ok, ok_or, String, string_bytes, Vec, Box, Global, refl, ap, sym, ◌∙◌, arith, rules, length-map, depth, items_depth, view, items_view, Value, CallParts, ClassParts, Expr, Call, Class, Op, the_lemmas, Command, Word, TCall, TClass, TOp, entry, entries_of, trees_of, tree_of, pair_of, expr_of, exprs_of, pair_in, pairs_in, entry_of, entries_in, named, named_entries, call, class, operation, command_trees, allows, Arity}
+use Rattle.std.proofs.Common.{◌≡◌, ◌+◌, ◌<◌, ◌≤◌, ◌∷◌, ◌++◌}
+use Rattle.script_text.proofs.JsonText.Lists.{onto, turn}
 
 -- an item is no deeper than its list
 pub depth-item : (vs : List Value) (i : ℕ) (v : Value) → i < length vs → depth (view (get_or vs i v)) ≤ items_depth (items_view vs)

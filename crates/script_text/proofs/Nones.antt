@@ -1,13 +1,9 @@
 -- Where a part is missing, there is no whole.
-use Rattle.std.proofs.Common.{◌≡◌, Option, Some, None, refl}
-use Rattle.std.specs.Prelude.{Result, Ok, Err, IfErr}
-use Rattle.script_text.specs.declared.form_parts.Single.{Single}
+use Rattle.script_text.proofs.Below.{Option, Some, None, refl, Result, Err, IfErr, Single, Many, of_three, of_four, of_two, single_tree, many_tree}
+use Rattle.std.proofs.Common.{◌≡◌}
+use Rattle.std.specs.Prelude.{Ok}
 use Rattle.script_text.specs.declared.form_parts.Single.TheVariants as single
-use Rattle.script_text.specs.declared.form_parts.Many.{Many}
 use Rattle.script_text.specs.declared.form_parts.Many.TheVariants as many
-use Rattle.script_text.specs.Forms.{of_three, of_four}
-use Rattle.json_text.specs.Texts.{of_two}
-use Rattle.script_text.specs.FormParts.{single_tree, many_tree}
 
 two-second : {A B C : Type 0} (f : A → B → C) (a : Option A) → of_two f a None ≡ None
 two-second f (Some a) = refl

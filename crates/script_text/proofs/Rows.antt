@@ -1,16 +1,8 @@
 -- How sessions are read.
-use Rattle.std.proofs.Common.{◌≡◌, ℕ, suc, ◌+◌, ◌<◌, ◌≤◌, ◌⊎◌, Bool, true, false, cond, List, [], ◌∷◌, ◌++◌, length, get_or, drop, map, Some, ok_or, Vec, Global, inl, inr, refl, ap, ◌∙◌, ne_eqb, arith}
-use Rattle.std.specs.Prelude.{◌==◌, ◌&&◌, leb, Err}
-use Rattle.std.proofs.lemmas.Bool.{le-leb, lt-leb}
-use Rattle.serde_json.specs.Data.{array}
-use Rattle.serde_json.specs.View.{view, items_view}
-use Rattle.serde_json.specs.declared.value.Value.{Value}
-use Rattle.py_node.specs.declared.expr.Command.{Command}
-use Rattle.json_text.specs.declared.error.ScriptError.TheVariants.{NoCommand, Shape}
-use Rattle.json_text.proofs.Lists.{onto, turn}
-use Rattle.script_text.specs.Forms.{list_of}
-use Rattle.script_text.specs.Script.{command_trees}
-use Rattle.script_text.specs.Sessions.{are_few, count_in, lacks_command, lists_in, is_empty_array, sessions_in}
+use Rattle.script_text.proofs.Below.{ℕ, suc, Bool, true, false, cond, List, [], length, get_or, drop, map, Some, ok_or, Vec, Global, inl, inr, refl, ap, ◌∙◌, ne_eqb, arith, leb, Err, le-leb, lt-leb, array, view, items_view, Value, Command, NoCommand, Shape, list_of, command_trees, are_few, count_in, lacks_command, lists_in, is_empty_array, sessions_in}
+use Rattle.std.proofs.Common.{◌≡◌, ◌+◌, ◌<◌, ◌≤◌, ◌⊎◌, ◌∷◌, ◌++◌}
+use Rattle.std.specs.Prelude.{◌==◌, ◌&&◌}
+use Rattle.script_text.proofs.JsonText.Lists.{onto, turn}
 
 pub count-is-length : (vs : List Value) → count_in (items_view vs) ≡ length vs
 unfolding count_in

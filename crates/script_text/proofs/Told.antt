@@ -1,15 +1,7 @@
 -- A form is told by the word that an array begins with.
-use Rattle.std.proofs.Common.{◌≡◌, List, [], ◌∷◌, Bool, true, false, cond, Option, Some, None, Ok, ok_or, option_map, refl, sym, ap, ◌∙◌}
-use Rattle.std.specs.Prelude.{Err, bytes_eq, option_and_then}
-use Rattle.std.specs.List.{find}
-use Rattle.serde_json.specs.Data.{Data, Items, no_items, item}
-use Rattle.serde_json.specs.Find.{as_str}
-use Rattle.py_node.specs.Tree.{Text, Tree}
-use Rattle.json_text.specs.declared.items.Unread.{Unread}
-use Rattle.script_text.specs.declared.form_words.FormWord.{FormWord}
-use Rattle.script_text.specs.Forms.{array_of}
-use Rattle.script_text.specs.FormWords.{form_named, form_words}
-use Rattle.script_text.specs.FormParts.{formed}
+use Rattle.script_text.proofs.Below.{List, [], Bool, true, false, cond, Option, Some, None, Ok, ok_or, option_map, refl, sym, ap, ◌∙◌, Err, option_and_then, find, Data, Items, no_items, item, as_str, Text, Tree, Unread, FormWord, array_of, form_named, form_words, formed}
+use Rattle.std.proofs.Common.{◌≡◌, ◌∷◌}
+use Rattle.std.specs.Prelude.{bytes_eq}
 use Rattle.script_text.proofs.Lists.{found}
 
 -- what the first row that has the word gives

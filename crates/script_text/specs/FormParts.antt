@@ -1,9 +1,5 @@
 -- What the parts of a form spell, and how deep they are.
-use Rattle.std.specs.Prelude.{ℕ, max, false, true, List, Option, Some, option_map, option_and_then}
-use Rattle.serde_json.specs.Data.{Items, depth, items_depth}
-use Rattle.serde_json.specs.Find.{as_str}
-use Rattle.serde_json.specs.View.{view, items_view}
-use Rattle.py_node.specs.Tree.{Tree, TName, TBind, TAttr, TSetAttr, TDelAttr, TIf, TRaise}
+use Rattle.script_text.specs.Below.{ℕ, max, false, true, List, Option, Some, option_map, option_and_then, Items, depth, items_depth, as_str, view, items_view, Tree, TName, TBind, TAttr, TSetAttr, TDelAttr, TIf, TRaise}
 use Rattle.script_text.specs.declared.form_words.FormWord.{FormWord}
 use Rattle.script_text.specs.declared.form_words.FormWord.TheVariants as form
 use Rattle.script_text.specs.declared.form_parts.Single.{Single}
@@ -12,7 +8,7 @@ use Rattle.script_text.specs.declared.form_parts.Many.{Many}
 use Rattle.script_text.specs.declared.form_parts.Many.TheVariants as many
 use Rattle.script_text.specs.declared.form_parts.Parts.{Parts}
 use Rattle.script_text.specs.declared.form_parts.Parts.TheVariants as parts
-use Rattle.json_text.specs.Texts.{of_two}
+use Rattle.script_text.specs.JsonText.Texts.{of_two}
 use Rattle.script_text.specs.Forms.{of_three, of_four, kind_named, params_of, operation, tuple, list, seq, dict, func, call, class, expr_of, exprs_of, pairs_in, entries_in, name_of, bind_of, func_of, attr_of, setattr_of, delattr_of, call_of, op_of, if_of, raise_of, class_of}
 
 -- what a form spells of what it takes

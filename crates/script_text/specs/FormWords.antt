@@ -1,7 +1,6 @@
 -- The words of forms.
-use Rattle.std.specs.Prelude.{codes, List, [], ◌∷◌, Option, option_map, bytes_eq}
-use Rattle.std.specs.List.{find}
-use Rattle.py_node.specs.Tree.{Text}
+use Rattle.script_text.specs.Below.{codes, List, [], Option, option_map, bytes_eq, find, Text}
+use Rattle.std.specs.Prelude.{◌∷◌}
 use Rattle.script_text.specs.declared.form_words.FormWord.{FormWord}
 use Rattle.script_text.specs.declared.form_words.FormWord.TheVariants as form
 

@@ -1,17 +1,9 @@
 -- Which expression a JSON value spells.
-use Rattle.std.specs.Prelude.{◌&&◌, List, [], ◌∷◌, length, map, codes, bytes_eq, Bool, true, false, not, if◌then◌else◌, Option, Some, None, option_map, option_and_then, String, string_bytes}
-use Rattle.std.specs.List.{find, list_any}
-use Rattle.serde_json.specs.Data.{Data, null, boolean, number, string, array, object, Items, no_items, item}
-use Rattle.serde_json.specs.Find.{as_i64, as_str}
-use Rattle.std.specs.declared.alloc.Global.{Global}
-use Rattle.py_node.specs.declared.expr.Expr.{Expr}
-use Rattle.py_node.specs.declared.expr.Word.{Word}
-use Rattle.py_node.specs.declared.raised.Kind.{Kind}
-use Rattle.py_node.specs.declared.raised.TheConstants.{KINDS}
-use Rattle.json_text.specs.Texts.{of_two, texts_in}
+use Rattle.script_text.specs.Below.{List, [], length, map, codes, bytes_eq, Bool, true, false, not, Option, Some, None, option_map, option_and_then, String, string_bytes, find, list_any, Data, null, boolean, number, string, array, object, Items, no_items, item, as_i64, as_str, Global, Expr, Word, Kind, KINDS, Text, LNone, LFalse, LTrue, LInt, LText, Tree, TConst, TName, TBind, TTuple, TList, TDict, TFunc, TAttr, TSetAttr, TDelAttr, TCall, TOp, TIf, TSeq, TRaise, TClass, Entries, no_entries, entry, keyed_of, trees_of, tree_of}
+use Rattle.std.specs.Prelude.{◌&&◌, ◌∷◌, if◌then◌else◌}
+use Rattle.script_text.specs.JsonText.Texts.{of_two, texts_in}
 use Rattle.script_text.specs.declared.words.Arity.{Arity}
 use Rattle.script_text.specs.Words.{allows, operation_of}
-use Rattle.py_node.specs.Tree.{Text, LNone, LFalse, LTrue, LInt, LText, Tree, TConst, TName, TBind, TTuple, TList, TDict, TFunc, TAttr, TSetAttr, TDelAttr, TCall, TOp, TIf, TSeq, TRaise, TClass, Entries, no_entries, entry, keyed_of, trees_of, tree_of}
 
 -- f of three parts, where all are there
 abbrev pub of_three : {A B C D : Type 0} → (A → B → C → D) → Option A → Option B → Option C → Option D

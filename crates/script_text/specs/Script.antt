@@ -1,11 +1,8 @@
 -- The commands that the bytes of a script spell, or why they spell none.
-use Rattle.std.specs.Prelude.{ℕ, List, ok_or, Result, Ok, Err, map}
-use Rattle.serde_json.specs.Data.{Data, null, boolean, number, string, array, object, Items, no_items, item}
-use Rattle.py_node.specs.declared.expr.Command.{Command}
-use Rattle.py_node.specs.Tree.{Tree, tree_of}
-use Rattle.json_text.specs.declared.error.ScriptError.{ScriptError}
-use Rattle.json_text.specs.declared.error.ScriptError.TheVariants.{NoCommand, Shape}
-use Rattle.json_text.specs.Json.{json_of}
+use Rattle.script_text.specs.Below.{ℕ, List, ok_or, Result, Ok, Err, map, Data, null, boolean, number, string, array, object, Items, no_items, item, Command, Tree, tree_of}
+use Rattle.script_text.specs.declared.json_text.error.ScriptError.{ScriptError}
+use Rattle.script_text.specs.declared.json_text.error.ScriptError.TheVariants.{NoCommand, Shape}
+use Rattle.script_text.specs.JsonText.Json.{json_of}
 use Rattle.script_text.specs.Forms.{exprs_of}
 
 -- at least one expression, and each is a command

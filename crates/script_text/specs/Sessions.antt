@@ -1,13 +1,10 @@
 -- The sessions that the bytes of a text spell, or why they spell none.
-use Rattle.std.specs.Prelude.{ℕ, suc, leb, ◌&&◌, ◌||◌, List, [], ◌∷◌, Bool, true, false, if◌then◌else◌, Option, Some, ok_or, Result, Ok, Err, map, Vec}
-use Rattle.std.specs.declared.alloc.Global.{Global}
-use Rattle.serde_json.specs.Data.{Data, null, boolean, number, string, array, object, Items, no_items, item}
-use Rattle.py_node.specs.declared.expr.Command.{Command}
-use Rattle.py_node.specs.Tree.{Tree}
-use Rattle.json_text.specs.declared.error.ScriptError.{ScriptError}
-use Rattle.json_text.specs.declared.error.ScriptError.TheVariants.{NoCommand, Shape}
-use Rattle.json_text.specs.Json.{json_of}
-use Rattle.json_text.specs.Texts.{of_two}
+use Rattle.script_text.specs.Below.{ℕ, suc, leb, List, [], Bool, true, false, Option, Some, ok_or, Result, Ok, Err, map, Vec, Global, Data, null, boolean, number, string, array, object, Items, no_items, item, Command, Tree}
+use Rattle.std.specs.Prelude.{◌&&◌, ◌||◌, ◌∷◌, if◌then◌else◌}
+use Rattle.script_text.specs.declared.json_text.error.ScriptError.{ScriptError}
+use Rattle.script_text.specs.declared.json_text.error.ScriptError.TheVariants.{NoCommand, Shape}
+use Rattle.script_text.specs.JsonText.Json.{json_of}
+use Rattle.script_text.specs.JsonText.Texts.{of_two}
 use Rattle.script_text.specs.Forms.{list_of}
 use Rattle.script_text.specs.Script.{command_trees}
 

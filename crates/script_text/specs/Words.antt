@@ -1,10 +1,6 @@
 -- The words of operations.
-use Rattle.std.specs.Prelude.{ℕ, ◌==◌, ◌||◌, Bool, bytes_eq, List, map, Option, option_map, option_and_then}
-use Rattle.std.specs.List.{find}
-use Rattle.serde_json.specs.Data.{Data}
-use Rattle.serde_json.specs.Find.{as_str}
-use Rattle.py_node.specs.declared.expr.Word.{Word}
-use Rattle.py_node.specs.Tree.{Text}
+use Rattle.script_text.specs.Below.{ℕ, Bool, bytes_eq, List, map, Option, option_map, option_and_then, find, Data, as_str, Word, Text}
+use Rattle.std.specs.Prelude.{◌==◌, ◌||◌}
 use Rattle.script_text.specs.declared.words.Arity.{Arity}
 use Rattle.script_text.specs.declared.words.Arity.TheVariants as arity
 use Rattle.script_text.specs.declared.words.TheConstants.{WORDS}

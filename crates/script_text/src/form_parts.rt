@@ -1,14 +1,15 @@
 //! What a form takes: the values that it takes as they are, and those that spell expressions.
 
-ghost use Rattle.std.specs.Prelude.{◌≡◌, ◌≤◌, ◌<◌, None, IfOk, IfErr};
-ghost use Rattle.serde_json.specs.Data.{array, item, no_items, depth, items_depth};
-ghost use Rattle.serde_json.specs.View.{view, items_view};
+ghost use Rattle.script_text.specs.Below.{None, IfOk, IfErr, array, item, no_items, depth, items_depth, view, items_view};
+ghost use Rattle.std.specs.Prelude.{◌≡◌, ◌≤◌, ◌<◌};
 ghost use Rattle.script_text.specs.Forms.{array_of, attr_of, bind_of, body_of, call_of, class_of, delattr_of, entries_in, entry_of, exprs_of, func_of, if_of, keywords_of, list_of, name_of, op_of, pair_in, raise_of, setattr_of};
 ghost use Rattle.script_text.specs.FormParts.{formed, parts_depth, parts_tree};
 
 use crate::form_words::{FormWord, read_form};
+use crate::json_text::items::{
+    Unread, next, no_more, one, three, three_and_rest, two, two_and_rest,
+};
 use crate::words::{Arity, read_word};
-use json_text::items::{Unread, next, no_more, one, three, three_and_rest, two, two_and_rest};
 use py_node::Word;
 use serde_json::Value;
 

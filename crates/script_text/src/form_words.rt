@@ -1,12 +1,10 @@
 //! The words of forms.
 
-ghost use Rattle.std.specs.Prelude.{◌≡◌, bytes_eq, map, ok_or, option_and_then, option_map};
-ghost use Rattle.std.specs.List.{find};
-ghost use Rattle.serde_json.specs.Find.{as_str};
-ghost use Rattle.serde_json.specs.View.{view};
+ghost use Rattle.script_text.specs.Below.{bytes_eq, map, ok_or, option_and_then, option_map, find, as_str, view};
+ghost use Rattle.std.specs.Prelude.{◌≡◌};
 ghost use Rattle.script_text.specs.FormWords.{form_named, form_words};
 
-use json_text::Unread;
+use crate::json_text::Unread;
 use serde_json::Value;
 
 /// What an array spells, by the word that it begins with.

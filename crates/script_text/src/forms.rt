@@ -1,16 +1,14 @@
 //! The forms of expressions.
 
-ghost use Rattle.std.specs.Prelude.{◌≡◌, ◌≢◌, Some, None, Err, IfOk, map, option_and_then, option_map, string_bytes};
-ghost use Rattle.serde_json.specs.Find.{as_str};
-ghost use Rattle.serde_json.specs.View.{view, items_view};
-ghost use Rattle.py_node.specs.Tree.{TIf, TName, TRaise, TSetAttr, pair_of, texts_of, tree_of};
+ghost use Rattle.script_text.specs.Below.{Some, None, Err, IfOk, map, option_and_then, option_map, string_bytes, as_str, view, items_view, TIf, TName, TRaise, TSetAttr, pair_of, texts_of, tree_of};
+ghost use Rattle.std.specs.Prelude.{◌≡◌, ◌≢◌};
 ghost use Rattle.script_text.specs.Forms.{all_differ, array_of, call, class, differing, entries_in, entry_of, expr_of, exprs_of, kind_named, named, pair_in, pairs_in, params_of};
 ghost use Rattle.script_text.specs.FormParts.{many_tree, parts_tree, single_tree};
 
 use crate::form_parts::{Many, Parts, Single, pair_items, parts_of};
+use crate::json_text::Unread;
+use crate::json_text::texts::{read_text, read_texts};
 use crate::words::read_kind;
-use json_text::Unread;
-use json_text::texts::{read_text, read_texts};
 use py_node::{CallParts, ClassParts, Constant, Expr, FuncParts, SetAttrParts};
 use serde_json::Value;
 use std::alloc::{AllocError, Global};

@@ -4,11 +4,13 @@
 mod form_parts;
 mod form_words;
 mod forms;
+pub mod json_text;
 pub mod read;
+pub mod reply_text;
 pub mod sessions;
 mod words;
 
-pub use json_text::{ScriptError, ScriptFault};
+pub use crate::json_text::{ScriptError, ScriptFault};
+pub use crate::reply_text::write::write_replies;
 pub use read::read_script;
-pub use reply_text::write::write_replies;
 pub use sessions::read_sessions;

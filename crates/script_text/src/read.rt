@@ -1,13 +1,13 @@
 //! The commands of a script.
 
-ghost use Rattle.std.specs.Prelude.{◌≡◌, Some, None, Err, IfOk};
-ghost use Rattle.serde_json.specs.View.{view, items_view};
-ghost use Rattle.json_text.specs.declared.error.ScriptError.{ScriptError as Refusal};
+ghost use Rattle.script_text.specs.Below.{Some, None, Err, IfOk, view, items_view};
+ghost use Rattle.std.specs.Prelude.{◌≡◌};
+ghost use Rattle.script_text.specs.declared.json_text.error.ScriptError.{ScriptError as Refusal};
 ghost use Rattle.script_text.specs.Forms.{exprs_of};
 ghost use Rattle.script_text.specs.Script.{script_of, commands_of, commands_in, command_trees};
 
 use crate::forms::read_expr;
-use json_text::{ScriptError, ScriptFault, Unread, read_json};
+use crate::json_text::{ScriptError, ScriptFault, Unread, read_json};
 use py_node::Command;
 use serde_json::Value;
 use std::alloc::Global;

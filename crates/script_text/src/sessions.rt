@@ -1,16 +1,15 @@
 //! The sessions of callers who share a machine.
 
-ghost use Rattle.std.specs.Prelude.{◌≡◌, ◌≤◌, ◌<◌, Some, None, IfOk, length, vec_len};
-ghost use Rattle.std.specs.List.{All};
-ghost use Rattle.serde_json.specs.View.{view, items_view};
-ghost use Rattle.json_text.specs.declared.error.ScriptError.{ScriptError as Refusal};
+ghost use Rattle.script_text.specs.Below.{Some, None, IfOk, length, vec_len, All, view, items_view};
+ghost use Rattle.std.specs.Prelude.{◌≡◌, ◌≤◌, ◌<◌};
+ghost use Rattle.script_text.specs.declared.json_text.error.ScriptError.{ScriptError as Refusal};
 ghost use Rattle.script_text.specs.Forms.{list_of};
 ghost use Rattle.script_text.specs.Script.{command_trees};
 ghost use Rattle.script_text.specs.Sessions.{sessions_of, sessions_by, sessions_in, lists_in, lacks_command, any_empty, is_empty_array, session_trees};
 
 use crate::form_parts::list_items;
+use crate::json_text::{ScriptError, ScriptFault, Unread, read_json};
 use crate::read::read_each;
-use json_text::{ScriptError, ScriptFault, Unread, read_json};
 use py_node::Command;
 use serde_json::Value;
 use std::alloc::Global;

@@ -1,13 +1,11 @@
 //! The words of operations, and those of the kinds of faults.
 
-ghost use Rattle.std.specs.Prelude.{◌≡◌, bytes_eq, map, ok_or, option_and_then, option_map};
-ghost use Rattle.std.specs.List.{find};
-ghost use Rattle.serde_json.specs.Find.{as_str};
-ghost use Rattle.serde_json.specs.View.{view};
+ghost use Rattle.script_text.specs.Below.{bytes_eq, map, ok_or, option_and_then, option_map, find, as_str, view};
+ghost use Rattle.std.specs.Prelude.{◌≡◌};
 ghost use Rattle.script_text.specs.Forms.{kind_named, kinds};
 ghost use Rattle.script_text.specs.Words.{allows, operation_of, word_of, words};
 
-use json_text::Unread;
+use crate::json_text::Unread;
 use py_node::raised::KINDS;
 use py_node::{
     Kind, ObjectWord, PyComparisonOp, PyNumberBinaryOp, PyNumberUnaryOp, SequenceWord, Word,

@@ -1,14 +1,6 @@
 -- The names that turns leave, and seats that are taken from a list.
-use Rattle.std.proofs.Common.{◌≡◌, ◌⊎◌, ℕ, ◌+◌, ◌≤◌, false, List, [], ◌∷◌, ◌++◌, length, Option, Some, None, inl, inr, refl, sym, ap, ◌∙◌, subst}
-use Rattle.std.specs.Prelude.{slice_get, option_to_list, IfSome}
-use Rattle.std.specs.List.{All}
-use Rattle.std.proofs.lemmas.List.{append-nil}
-use Rattle.std.proofs.lemmas.List.Elements.{filter_map-append, All-pop}
-use Rattle.seat_lock.specs.declared.history.Turn.{Turn}
-use Rattle.seat_lock.specs.declared.seat.TheConstants.{MOST_TURNS}
-use Rattle.seat_lock.specs.Known.{TableId, Known, IsSameSeat}
-use Rattle.seat_example.specs.Signed.{MaySign}
-use Rattle.seat_example.specs.Sheets.{names_in, newest}
+use Rattle.seat_example.proofs.Below.{ℕ, false, List, [], length, Option, Some, None, inl, inr, refl, sym, ap, ◌∙◌, subst, slice_get, option_to_list, IfSome, All, append-nil, filter_map-append, All-pop, Turn, MOST_TURNS, TableId, Known, IsSameSeat, MaySign, names_in, newest}
+use Rattle.std.proofs.Common.{◌≡◌, ◌⊎◌, ◌+◌, ◌≤◌, ◌∷◌, ◌++◌}
 
 at_end : (xs : List ℕ) (y : ℕ) → slice_get (xs ++ y ∷ []) (length xs) ≡ Some y
 at_end [] y = refl

@@ -1,7 +1,6 @@
 -- What a sheet says of the turns that were taken at it.
-use Rattle.std.specs.Prelude.{◌≡◌, ℕ, false, List, length, slice_get}
-use Rattle.std.specs.List.{filter_map}
-use Rattle.seat_lock.specs.declared.history.Turn.{Turn}
+use Rattle.seat_example.specs.Below.{ℕ, false, List, length, slice_get, filter_map, Turn}
+use Rattle.std.specs.Prelude.{◌≡◌}
 use Rattle.seat_example.specs.declared.sheet.Sheet.{Sheet}
 
 abbrev pub names_in : List (Turn ℕ) → List ℕ

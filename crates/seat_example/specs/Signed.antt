@@ -1,7 +1,6 @@
 -- What a seat has after it signed.
-use Rattle.std.specs.Prelude.{◌≡◌, ℕ, ◌+◌, ◌≤◌, length}
-use Rattle.seat_lock.specs.declared.seat.TheConstants.{MOST_TURNS}
-use Rattle.seat_lock.specs.Known.{TableId, Known, IsFree}
+use Rattle.seat_example.specs.Below.{ℕ, length, MOST_TURNS, TableId, Known, IsFree}
+use Rattle.std.specs.Prelude.{◌≡◌, ◌+◌, ◌≤◌}
 
 -- a free seat of this lock that has so many turns left
 abbrev pub MaySign : TableId → ℕ → Known ℕ → Type 0

@@ -1,5 +1,6 @@
 //! The value under the lock.
-ghost use Rattle.std.specs.Prelude.{◌≡◌, [], ◌∷◌, ◌++◌, ◌⊎◌};
+ghost use Rattle.seat_example.specs.Below.{[]};
+ghost use Rattle.std.specs.Prelude.{◌≡◌, ◌∷◌, ◌++◌, ◌⊎◌};
 
 use seat_lock::Turns;
 

@@ -1,6 +1,6 @@
 //! Turns at the sheet.
-ghost use Rattle.std.specs.Prelude.{◌≡◌, true, [], ◌∷◌, ◌++◌, vec_len, All};
-ghost use Rattle.seat_lock.specs.Known.{with_turn};
+ghost use Rattle.seat_example.specs.Below.{true, [], vec_len, All, with_turn};
+ghost use Rattle.std.specs.Prelude.{◌≡◌, ◌∷◌, ◌++◌};
 ghost use Rattle.seat_example.specs.Sheets.{Stands, newest};
 ghost use Rattle.seat_example.specs.Signed.{MaySign, Signed};
 

@@ -1,19 +1,9 @@
 -- Seats are cut off and joined.
-use Rattle.std.proofs.Common.{◌≡◌, ◌≢◌, ℕ, zero, suc, ◌+◌, ◌*◌, ◌<◌, ◌≤◌, List, [], ◌∷◌, ◌++◌, length, set, get_or, Option, refl, sym, ap, ◌∙◌, subst, inl, inr, arith, length-append}
-use Rattle.std.specs.List.{All}
-use Rattle.std.proofs.lemmas.List.Elements.{All-weaker, All-head, All-tail, All-cons, All-nil, All-append}
+use Rattle.seat_lock.proofs.Below.{ℕ, zero, suc, List, [], length, set, get_or, Option, refl, sym, ap, ◌∙◌, subst, inl, inr, arith, length-append, All, All-weaker, All-head, All-tail, All-cons, All-nil, All-append, Splits, Joins, set_else, set_again, at_longer, Turn, MOST_TURNS, Account, View, Idle, Holds, IsBelow, total, account, blank_from, tickets, ticket_count, turns_made, seats_of, Agrees, Fits, IsPlaced, HasOneHistory, first_of, others_of, with_first, without_first, copied, joined, spent}
+use Rattle.std.proofs.Common.{◌≡◌, ◌≢◌, ◌+◌, ◌*◌, ◌<◌, ◌≤◌, ◌∷◌, ◌++◌}
 use mathlib.Core.Option.{some, none, some-ne-none, some-injective}
 use mathlib.Core.Option as maybe
 use lib.ListN.{get_elem?}
-use Rattle.atomic_table.specs.Table.{Splits, Joins}
-use Rattle.atomic_table.proofs.Lists.{set_else, set_again, at_longer}
-use Rattle.seat_lock.specs.declared.history.Turn.{Turn}
-use Rattle.seat_lock.specs.declared.seat.TheConstants.{MOST_TURNS}
-use Rattle.seat_lock.specs.declared.board.Account.{Account}
-use Rattle.seat_lock.specs.declared.board.View.{View}
-use Rattle.seat_lock.specs.declared.board.Stage.TheVariants.{Idle, Holds}
-use Rattle.seat_lock.specs.Rule.{IsBelow, total, account, blank_from, tickets, ticket_count, turns_made, seats_of, Agrees, Fits, IsPlaced, HasOneHistory}
-use Rattle.seat_lock.specs.Plays.{first_of, others_of, with_first, without_first, copied, joined, spent}
 use Rattle.seat_lock.proofs.Totals.{total_set, total_append, total_snoc, each_set, at_end}
 use Rattle.seat_lock.proofs.Placing.{placed_set, placed_same}
 use Rattle.seat_lock.proofs.Histories.{prefix_nil}

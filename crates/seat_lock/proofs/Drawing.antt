@@ -1,16 +1,8 @@
 -- A seat draws a ticket.
-use Rattle.std.proofs.Common.{◌≡◌, ℕ, ◌+◌, ◌*◌, ◌%◌, ◌^◌, ◌≤◌, List, [], ◌∷◌, length, set, get_or, Option, refl, ap, ◌∙◌, subst, arith}
-use Rattle.std.specs.List.{All}
+use Rattle.seat_lock.proofs.Below.{ℕ, List, [], length, set, get_or, Option, refl, ap, ◌∙◌, subst, arith, All, State, step, keeps, Allows, Turn, MOST_TURNS, View, Stage, Idle, Waits, Holds, IsBelow, total, tickets, ticket_count, turns_made, seats_of, InStage, Fits, HasOneHistory, Hand, drawn}
+use Rattle.std.proofs.Common.{◌≡◌, ◌+◌, ◌*◌, ◌%◌, ◌^◌, ◌≤◌, ◌∷◌}
 use mathlib.Core.Option.{some, none}
 use lib.ListN.{get_elem?}
-use Rattle.atomic_table.specs.Table.{State, step, keeps, Allows}
-use Rattle.seat_lock.specs.declared.history.Turn.{Turn}
-use Rattle.seat_lock.specs.declared.seat.TheConstants.{MOST_TURNS}
-use Rattle.seat_lock.specs.declared.board.View.{View}
-use Rattle.seat_lock.specs.declared.board.Stage.{Stage}
-use Rattle.seat_lock.specs.declared.board.Stage.TheVariants.{Idle, Waits, Holds}
-use Rattle.seat_lock.specs.Rule.{IsBelow, total, tickets, ticket_count, turns_made, seats_of, InStage, Fits, HasOneHistory}
-use Rattle.seat_lock.specs.Plays.{Hand, drawn}
 use Rattle.seat_lock.proofs.Totals.{total_set, total_bound, each_set}
 use Rattle.seat_lock.proofs.Placing.{placed_set}
 use Rattle.seat_lock.proofs.Functions.{changed, changed_here, changed_else}

@@ -1,19 +1,11 @@
 -- The table at the start and at the end.
-use Rattle.std.proofs.Common.{◌≡◌, ◌≢◌, ℕ, zero, suc, ◌+◌, ◌*◌, ◌<◌, ◌≤◌, List, [], ◌∷◌, length, Option, Some, refl, sym, ap, ◌∙◌, subst, inl, inr, arith}
-use Rattle.std.specs.List.{All}
-use Rattle.std.proofs.lemmas.List.Elements.{All-nil, All-cons}
+use Rattle.seat_lock.proofs.Below.{ℕ, zero, suc, List, [], length, Option, Some, refl, sym, ap, ◌∙◌, subst, inl, inr, arith, All, All-nil, All-cons, opening, Final, Seen, Turn, MOST_TURNS, Account, View, Idle, Holds, IsBelow, ByBelow, total, account, blank_from, founder, tickets, ticket_count, turns_made, seats_of, Agrees, Fits, HasOneHistory}
+use Rattle.std.proofs.Common.{◌≡◌, ◌≢◌, ◌+◌, ◌*◌, ◌<◌, ◌≤◌, ◌∷◌}
 use mathlib.Core.Option.{some, some-ne-none, some-injective}
 use mathlib.Core.List.{IsPrefix}
 use mathlib.Core.Logic.{dite}
 use native.Mathlib.Decide.{ℕ_discrete}
 use lib.ListN.{get_elem?}
-use Rattle.atomic_table.specs.Table.{opening, Final, Seen}
-use Rattle.seat_lock.specs.declared.history.Turn.{Turn}
-use Rattle.seat_lock.specs.declared.seat.TheConstants.{MOST_TURNS}
-use Rattle.seat_lock.specs.declared.board.Account.{Account}
-use Rattle.seat_lock.specs.declared.board.View.{View}
-use Rattle.seat_lock.specs.declared.board.Stage.TheVariants.{Idle, Holds}
-use Rattle.seat_lock.specs.Rule.{IsBelow, ByBelow, total, account, blank_from, founder, tickets, ticket_count, turns_made, seats_of, Agrees, Fits, HasOneHistory}
 use Rattle.seat_lock.proofs.Totals.{total_alone, total_two, one_view}
 use Rattle.seat_lock.proofs.Cutting.{blanks_made, blanks_long, blanks_below}
 use Rattle.seat_lock.proofs.Looking.{all_true}

@@ -1,19 +1,8 @@
 -- A seat makes its turn: the value is at home again, and the next ticket is served.
-use Rattle.std.proofs.Common.{◌<◌, ◌≡◌, ◌≢◌, ℕ, ◌+◌, ◌*◌, ◌%◌, ◌^◌, ◌≤◌, List, [], ◌∷◌, ◌++◌, length, set, get_or, Option, Some, None, refl, sym, ap, ap₂, ◌∙◌, subst, inl, inr, arith, length-append}
-use Rattle.std.specs.List.{All}
-use Rattle.std.proofs.lemmas.List.{append-nil}
-use Rattle.std.proofs.lemmas.List.Elements.{All-weaker, All-head, All-cons, All-nil, All-append}
+use Rattle.seat_lock.proofs.Below.{ℕ, List, [], length, set, get_or, Option, Some, None, refl, sym, ap, ap₂, ◌∙◌, subst, inl, inr, arith, length-append, All, append-nil, All-weaker, All-head, All-cons, All-nil, All-append, State, step, gives, put_back, rest, Allows, Turn, MOST_TURNS, Account, View, Stage, Idle, Waits, Holds, IsBelow, ByBelow, total, account, tickets, ticket_count, turns_made, seats_of, InStage, Agrees, Fits, HasOneHistory, Hand, account_with, left_turn}
+use Rattle.std.proofs.Common.{◌<◌, ◌≡◌, ◌≢◌, ◌+◌, ◌*◌, ◌%◌, ◌^◌, ◌≤◌, ◌∷◌, ◌++◌}
 use mathlib.Core.Option.{some, none}
 use lib.ListN.{get_elem?}
-use Rattle.atomic_table.specs.Table.{State, step, gives, put_back, rest, Allows}
-use Rattle.seat_lock.specs.declared.history.Turn.{Turn}
-use Rattle.seat_lock.specs.declared.seat.TheConstants.{MOST_TURNS}
-use Rattle.seat_lock.specs.declared.board.Account.{Account}
-use Rattle.seat_lock.specs.declared.board.View.{View}
-use Rattle.seat_lock.specs.declared.board.Stage.{Stage}
-use Rattle.seat_lock.specs.declared.board.Stage.TheVariants.{Idle, Waits, Holds}
-use Rattle.seat_lock.specs.Rule.{IsBelow, ByBelow, total, account, tickets, ticket_count, turns_made, seats_of, InStage, Agrees, Fits, HasOneHistory}
-use Rattle.seat_lock.specs.Plays.{Hand, account_with, left_turn}
 use Rattle.seat_lock.proofs.Totals.{total_set, each_set}
 use Rattle.seat_lock.proofs.Histories.{prefix_longer, own_turn, other_turn}
 use Rattle.seat_lock.proofs.Drawing.{roomy}

@@ -1,21 +1,10 @@
 -- A seat looks which ticket is served, and takes the value where it is its own.
-use Rattle.std.proofs.Common.{◌≡◌, ℕ, zero, suc, ◌+◌, ◌*◌, ◌<◌, ◌≤◌, List, [], ◌∷◌, length, set, get_or, Option, Some, refl, sym, ap, ◌∙◌, subst, inl, inr, arith}
-use Rattle.std.specs.List.{All}
-use Rattle.std.proofs.lemmas.List.Elements.{All-weaker}
+use Rattle.seat_lock.proofs.Below.{ℕ, zero, suc, List, [], length, set, get_or, Option, Some, refl, sym, ap, ◌∙◌, subst, inl, inr, arith, All, All-weaker, State, Act, step, keeps, takes, stepped, Allows, Valid, carried_after, set_again, set_here, Turn, MOST_TURNS, Account, View, Stage, Idle, Waits, Holds, IsBelow, total, tickets, ticket_count, turns_made, seats_of, InStage, Agrees, Fits, HasOneHistory, ticket_of, Hand, looked, Served, learnt}
+use Rattle.std.proofs.Common.{◌≡◌, ◌+◌, ◌*◌, ◌<◌, ◌≤◌, ◌∷◌}
 use mathlib.Core.Option.{some, none}
 use mathlib.Core.Logic.{dite}
 use native.Mathlib.Decide.{ℕ_discrete}
 use lib.ListN.{get_elem?}
-use Rattle.atomic_table.specs.Table.{State, Act, step, keeps, takes, stepped, Allows, Valid, carried_after}
-use Rattle.atomic_table.proofs.Lists.{set_again, set_here}
-use Rattle.seat_lock.specs.declared.history.Turn.{Turn}
-use Rattle.seat_lock.specs.declared.seat.TheConstants.{MOST_TURNS}
-use Rattle.seat_lock.specs.declared.board.Account.{Account}
-use Rattle.seat_lock.specs.declared.board.View.{View}
-use Rattle.seat_lock.specs.declared.board.Stage.{Stage}
-use Rattle.seat_lock.specs.declared.board.Stage.TheVariants.{Idle, Waits, Holds}
-use Rattle.seat_lock.specs.Rule.{IsBelow, total, tickets, ticket_count, turns_made, seats_of, InStage, Agrees, Fits, HasOneHistory}
-use Rattle.seat_lock.specs.Plays.{ticket_of, Hand, looked, Served, learnt}
 use Rattle.seat_lock.proofs.Totals.{total_set, each_set, one_view, below}
 use Rattle.seat_lock.proofs.Placing.{placed_same}
 use Rattle.seat_lock.proofs.Histories.{prefix_self, prefix_nil}

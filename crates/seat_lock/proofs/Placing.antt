@@ -1,15 +1,11 @@
 -- Where the value is, after a change of a view that doesn't hold it.
-use Rattle.std.proofs.Common.{◌≡◌, ◌≢◌, ℕ, List, length, set, Option, sym, ap, ◌∙◌, subst, inl, inr}
+use Rattle.seat_lock.proofs.Below.{ℕ, List, length, set, Option, sym, ap, ◌∙◌, subst, inl, inr, set_else, set_here, Turn, View, Holds, IsPlaced}
+use Rattle.std.proofs.Common.{◌≡◌, ◌≢◌}
 use mathlib.Core.Option.{some, none, some-ne-none, some-injective}
 use mathlib.Core.Option as maybe
 use mathlib.Core.Logic.{dite}
 use native.Mathlib.Decide.{ℕ_discrete}
 use lib.ListN.{get_elem?}
-use Rattle.atomic_table.proofs.Lists.{set_else, set_here}
-use Rattle.seat_lock.specs.declared.history.Turn.{Turn}
-use Rattle.seat_lock.specs.declared.board.View.{View}
-use Rattle.seat_lock.specs.declared.board.Stage.TheVariants.{Holds}
-use Rattle.seat_lock.specs.Rule.{IsPlaced}
 use Rattle.seat_lock.proofs.Totals.{each_set, one_view, below}
 
 module _ {T E : Type 0} (stands : T → List (Turn E) → Type 0) (log : List (Turn E)) (homes : List (maybe.Option (Option T))) where

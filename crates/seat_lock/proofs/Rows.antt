@@ -1,23 +1,9 @@
 -- Lists of seats.
-use Rattle.std.proofs.Common.{◌≡◌, ℕ, zero, suc, ◌+◌, ◌<◌, List, [], ◌∷◌, ◌++◌, map, length, Option, Some, None, true, refl, sym, ap, ◌∙◌, subst, append_assoc, arith}
-use Rattle.std.specs.Prelude.{slice_get, option_to_list, MatchOption, IfSome, is_some}
-use Rattle.std.specs.List.{All, sum_by}
-use Rattle.std.proofs.lemmas.List.Elements.{All-head, All-tail, All-cons, All-nil, All-pop}
-use Rattle.std.proofs.lemmas.List.Sums.{sum_by-cons}
-use Rattle.std.proofs.lemmas.Option.{get_or_from_slice_get}
+use Rattle.seat_lock.proofs.Below.{ℕ, zero, suc, List, [], map, length, Option, Some, None, true, refl, sym, ap, ◌∙◌, subst, append_assoc, arith, slice_get, option_to_list, MatchOption, IfSome, is_some, All, sum_by, All-head, All-tail, All-cons, All-nil, All-pop, sum_by-cons, get_or_from_slice_get, TableId, Final, Seen, Turn, Account, ByBelow, total, account, Agrees, HasOneHistory, Hand, Place, IsIdle, Learnt, Known, IsFree, fresh_seat, turns_by, IsWhole, account_of, Gathered}
+use Rattle.std.proofs.Common.{◌≡◌, ◌+◌, ◌<◌, ◌∷◌, ◌++◌}
 use mathlib.Core.List.{IsPrefix}
 use mathlib.Core.Logic.{dite}
 use native.Mathlib.Decide.{ℕ_discrete}
-use Rattle.atomic_table.specs.Seated.{TableId}
-use Rattle.atomic_table.specs.Table.{Final, Seen}
-use Rattle.seat_lock.specs.declared.history.Turn.{Turn}
-use Rattle.seat_lock.specs.declared.board.Account.{Account}
-use Rattle.seat_lock.specs.Rule.{ByBelow, total, account, Agrees, HasOneHistory}
-use Rattle.seat_lock.specs.Plays.{Hand}
-use Rattle.seat_lock.specs.Places.{Place, IsIdle, Learnt}
-use Rattle.seat_lock.specs.Known.{Known, IsFree, fresh_seat}
-use Rattle.seat_lock.specs.History.{turns_by, IsWhole}
-use Rattle.seat_lock.specs.Ending.{account_of, Gathered}
 use Rattle.seat_lock.proofs.Histories.{prefix_self, prefix_trans}
 use Rattle.seat_lock.proofs.Ends.{Shows, closes}
 

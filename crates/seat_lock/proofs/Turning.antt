@@ -1,22 +1,7 @@
 -- What a seat comes to by a turn.
-use Rattle.std.proofs.Common.{◌≡◌, ℕ, zero, suc, ◌+◌, ◌<◌, ◌≤◌, true, false, List, [], ◌∷◌, ◌++◌, length, None, refl, sym, ap, ap₂, ◌∙◌, subst, arith, length-append}
-use Rattle.std.specs.List.{All}
-use Rattle.std.proofs.lemmas.List.Elements.{All-head}
+use Rattle.seat_lock.proofs.Below.{ℕ, zero, suc, true, false, List, [], length, None, refl, sym, ap, ap₂, ◌∙◌, subst, arith, length-append, All, All-head, rest, Turn, MOST_TURNS, Account, Stage, Idle, Waits, Holds, Inside, turns_by, total, account, ticket_count, turns_made, seats_of, Agrees, blank_view, account_with, with_first, without_first, Hand, made_of, is_held, Held, Place, IsIdle, MayDraw, Taken, Left, Learnt, Known, IsFree, fresh_seat, with_turn, TableId, known, IsOwn}
+use Rattle.std.proofs.Common.{◌≡◌, ◌+◌, ◌<◌, ◌≤◌, ◌∷◌, ◌++◌}
 use mathlib.Core.List.{IsPrefix}
-use Rattle.atomic_table.specs.Table.{rest}
-use Rattle.seat_lock.specs.declared.history.Turn.{Turn}
-use Rattle.seat_lock.specs.declared.seat.TheConstants.{MOST_TURNS}
-use Rattle.seat_lock.specs.declared.board.Account.{Account}
-use Rattle.seat_lock.specs.declared.board.Stage.{Stage}
-use Rattle.seat_lock.specs.declared.board.Stage.TheVariants.{Idle, Waits, Holds}
-use Rattle.seat_lock.specs.declared.seat.LockSeat.TheInside.{Inside}
-use Rattle.seat_lock.specs.History.{turns_by}
-use Rattle.seat_lock.specs.Rule.{total, account, ticket_count, turns_made, seats_of, Agrees, blank_view}
-use Rattle.seat_lock.specs.Plays.{account_with, with_first, without_first, Hand}
-use Rattle.seat_lock.specs.Places.{made_of, is_held, Held, Place, IsIdle, MayDraw, Taken, Left, Learnt}
-use Rattle.seat_lock.specs.Known.{Known, IsFree, fresh_seat, with_turn}
-use Rattle.atomic_table.specs.Seated.{TableId}
-use Rattle.seat_lock.specs.Seats.{known, IsOwn}
 use Rattle.seat_lock.proofs.Histories.{own_turn}
 
 pub one_slot : {S : Type 0} (l : List (ℕ × S)) (y : S) → l ≡ (0, y) ∷ [] → l ≡ (0, y) ∷ rest l

@@ -1,8 +1,7 @@
 -- What seats that were taken in come to.
-use Rattle.std.specs.Prelude.{◌≡◌, List, map}
-use Rattle.std.specs.List.{All}
+use Rattle.seat_lock.specs.Below.{List, map, All, TableId}
+use Rattle.std.specs.Prelude.{◌≡◌}
 use mathlib.Core.List.{IsPrefix}
-use Rattle.atomic_table.specs.Seated.{TableId}
 use Rattle.seat_lock.specs.declared.board.Account.{Account}
 use Rattle.seat_lock.specs.Rule.{account}
 use Rattle.seat_lock.specs.Places.{Place, IsIdle}

@@ -1,6 +1,6 @@
 -- Histories of turns, and what the seats of a lock have of the whole one.
-use Rattle.std.specs.Prelude.{◌≡◌, ◌==◌, ℕ, ◌<◌, List, length}
-use Rattle.std.specs.List.{All, filter, sum_by}
+use Rattle.seat_lock.specs.Below.{ℕ, List, length, All, filter, sum_by}
+use Rattle.std.specs.Prelude.{◌≡◌, ◌==◌, ◌<◌}
 use mathlib.Core.List.{IsPrefix}
 use Rattle.seat_lock.specs.declared.history.Turn.{Turn}
 use Rattle.seat_lock.specs.Known.{Known}

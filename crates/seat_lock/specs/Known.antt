@@ -1,5 +1,6 @@
 -- What a contract says of a lock and of a seat.
-use Rattle.std.specs.Prelude.{◌≡◌, ℕ, Bool, false, List, [], ◌∷◌, ◌++◌}
+use Rattle.seat_lock.specs.Below.{ℕ, Bool, false, List, []}
+use Rattle.std.specs.Prelude.{◌≡◌, ◌∷◌, ◌++◌}
 pub use Rattle.atomic_table.specs.Seated.{TableId}
 use Rattle.seat_lock.specs.declared.history.Turn.{Turn}
 

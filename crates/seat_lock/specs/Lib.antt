@@ -1,3 +1,4 @@
+pub mod Below
 pub mod Known
 pub mod History
 pub mod Rule

@@ -1,8 +1,7 @@
 -- What each step on the table tells its seat, and how views are cut and joined.
-use Rattle.std.specs.Prelude.{◌≡◌, ℕ, List, [], ◌∷◌, ◌++◌, Option, Some}
-use Rattle.std.specs.List.{All}
+use Rattle.seat_lock.specs.Below.{ℕ, List, [], Option, Some, All, Me, Step, rest}
+use Rattle.std.specs.Prelude.{◌≡◌, ◌∷◌, ◌++◌}
 use mathlib.Core.List.{IsPrefix}
-use Rattle.atomic_table.specs.Table.{Me, Step, rest}
 use Rattle.seat_lock.specs.declared.history.Turn.{Turn}
 use Rattle.seat_lock.specs.declared.board.Account.{Account}
 use Rattle.seat_lock.specs.declared.board.View.{View}

@@ -1,10 +1,9 @@
 -- The rule of the table under the lock: a ticket lock, whose turns form one history.
-use Rattle.std.specs.Prelude.{◌≡◌, ℕ, zero, suc, ◌+◌, ◌*◌, ◌<◌, ◌≤◌, ◌⊎◌, List, [], ◌∷◌, length, Option, Some}
-use Rattle.std.specs.List.{All}
+use Rattle.seat_lock.specs.Below.{ℕ, zero, suc, List, [], length, Option, Some, All, State}
+use Rattle.std.specs.Prelude.{◌≡◌, ◌+◌, ◌*◌, ◌<◌, ◌≤◌, ◌⊎◌, ◌∷◌}
 use mathlib.Core.Option.{some, none}
 use mathlib.Core.List.{IsPrefix}
 use lib.ListN.{get_elem?}
-use Rattle.atomic_table.specs.Table.{State}
 use Rattle.seat_lock.specs.declared.history.Turn.{Turn}
 use Rattle.seat_lock.specs.declared.board.Account.{Account}
 use Rattle.seat_lock.specs.declared.board.View.{View}

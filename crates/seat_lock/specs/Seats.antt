@@ -1,5 +1,6 @@
 -- A lock and a seat as contracts see them, and what always holds of each.
-use Rattle.std.specs.Prelude.{◌≡◌, ◌+◌, ◌<◌, ◌≤◌, [], ◌∷◌, length}
+use Rattle.seat_lock.specs.Below.{[], length}
+use Rattle.std.specs.Prelude.{◌≡◌, ◌+◌, ◌<◌, ◌≤◌, ◌∷◌}
 use Rattle.seat_lock.specs.declared.lock.SeatLock.TheInside as lock
 use Rattle.seat_lock.specs.declared.seat.LockSeat.TheInside as seat
 use Rattle.seat_lock.specs.History.{turns_by}

@@ -1,5 +1,6 @@
 //! How the seats of a new lock are made: each is cut off the first, which begins with every number.
-ghost use Rattle.std.specs.Prelude.{◌≡◌, ℕ, ◌<◌, ◌≤◌, [], ◌∷◌, vec_len, vec_capacity, Some, slice_get};
+ghost use Rattle.seat_lock.specs.Below.{ℕ, [], vec_len, vec_capacity, Some, slice_get};
+ghost use Rattle.std.specs.Prelude.{◌≡◌, ◌<◌, ◌≤◌, ◌∷◌};
 ghost use Rattle.seat_lock.specs.Known.{fresh_seat};
 ghost use Rattle.seat_lock.specs.Places.{IsAt};
 ghost use Rattle.seat_lock.specs.Rule.{founder};

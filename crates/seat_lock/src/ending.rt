@@ -1,6 +1,6 @@
 //! How the seats of a lock come together at its end.
-ghost use Rattle.std.specs.Prelude.{◌<◌, vec_len};
-ghost use Rattle.std.specs.List.{All};
+ghost use Rattle.seat_lock.specs.Below.{vec_len, All};
+ghost use Rattle.std.specs.Prelude.{◌<◌};
 ghost use Rattle.seat_lock.specs.Ending.{Gathered};
 ghost use Rattle.seat_lock.specs.Known.{IsFree};
 ghost use Rattle.seat_lock.specs.Places.{IsSized};

@@ -1,6 +1,6 @@
 //! The lock.
-ghost use Rattle.std.specs.Prelude.{◌≡◌, ℕ, ◌<◌, ◌++◌, List, [], ◌∷◌, length, vec_len, true, false, Some, slice_get, IsOk, IfOk, IfErr};
-ghost use Rattle.std.specs.List.{All};
+ghost use Rattle.seat_lock.specs.Below.{ℕ, List, [], length, vec_len, true, false, Some, slice_get, IsOk, IfOk, IfErr, All};
+ghost use Rattle.std.specs.Prelude.{◌≡◌, ◌<◌, ◌++◌, ◌∷◌};
 ghost use mathlib.Core.List.{IsPrefix};
 ghost use Rattle.seat_lock.specs.declared.history.Turn.{Turn};
 ghost use Rattle.seat_lock.specs.History.{turns_by, IsWhole};

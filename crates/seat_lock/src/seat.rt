@@ -1,5 +1,6 @@
 //! A caller's seat.
-ghost use Rattle.std.specs.Prelude.{◌≡◌, ◌≤◌, length};
+ghost use Rattle.seat_lock.specs.Below.{length};
+ghost use Rattle.std.specs.Prelude.{◌≡◌, ◌≤◌};
 
 use crate::board::Place;
 use crate::history::Turns;

@@ -1,5 +1,6 @@
 //! The steps of one turn, and how a seat takes in another.
-ghost use Rattle.std.specs.Prelude.{◌≡◌, ℕ, [], ◌∷◌, ◌++◌, None};
+ghost use Rattle.seat_lock.specs.Below.{ℕ, [], None};
+ghost use Rattle.std.specs.Prelude.{◌≡◌, ◌∷◌, ◌++◌};
 ghost use Rattle.seat_lock.specs.declared.board.Stage.TheVariants.{Holds};
 ghost use Rattle.seat_lock.specs.Places.{IsAt, IsIdle, MayDraw, Taken, IsSingle, Left, Learnt};
 

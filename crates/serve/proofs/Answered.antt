@@ -1,12 +1,7 @@
 -- What is spelled is not refused, and ends that can't come leave two.
-use Rattle.std.proofs.Common.{◌≡◌, ℕ, List, refl}
-use Rattle.outside.specs.declared.words.Question.{Question}
-use Rattle.outside.specs.declared.words.Question.TheVariants.{Run, Share, Check}
-use Rattle.json_text.specs.declared.error.ScriptError.{ScriptError as Refusal}
-use Rattle.serve.specs.declared.status.Status.{Status as End}
-use Rattle.serve.specs.declared.status.Status.TheVariants.{Done, Usage, Script, ReadFault, WriteFault, OutOfMemory, TooLarge}
-use Rattle.serve.specs.Headline.{IsSpelled, IsRefused}
-use Rattle.serve.specs.Status.{IsDoneOrPoor}
+use Rattle.serve.proofs.Below.{ℕ, List, refl, Question, Share, Check, ScriptError as Refusal, Status as End, Done, Usage, Script, ReadFault, WriteFault, OutOfMemory, TooLarge, IsSpelled, IsRefused, IsDoneOrPoor}
+use Rattle.std.proofs.Common.{◌≡◌}
+use Rattle.outside.specs.declared.words.Question.TheVariants.{Run}
 
 pub spelled-not_refused : (q : Question) (bytes : List ℕ) (e : Refusal) → IsSpelled q bytes → IsRefused q bytes e → ⊥
 spelled-not_refused (Run units) bytes e (commands, spelled) refused = cc

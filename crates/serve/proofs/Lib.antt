@@ -1,3 +1,5 @@
+pub mod Lemmas
+pub mod Below
 pub mod OneMore
 pub mod Steps
 pub mod Answered

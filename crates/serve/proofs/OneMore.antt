@@ -1,20 +1,6 @@
 -- One command more is run: the plain machine goes on where the commands before it left it, and its one reply is counted.
-use Rattle.std.proofs.Common.{◌≡◌, List, [], ◌∷◌, ◌++◌, length, map, sym, ap, ◌∙◌, subst}
-use Rattle.std.specs.Prelude.{Result, Ok, Err, IfOk}
-use Rattle.std.proofs.lemmas.List.{length-map}
-use Rattle.py_node.specs.declared.reply.Reply.{Reply}
-use Rattle.py_node.specs.Tree.{Tree}
-use Rattle.py_node.specs.Replies.{PlainReply, reply_of}
-use Rattle.plain_machine.specs.Plain.{PlainWorld}
-use Rattle.plain_machine.specs.Answer.{Run, plain_run}
-use Rattle.plain_machine.specs.Start.{start}
-use Rattle.class_world.specs.declared.world.World.{World}
-use Rattle.class_world.specs.Reading.{Reading, Reads, plain, IsReadable}
-use Rattle.vm_eval.specs.Say.{say}
-use Rattle.generator.specs.declared.tally.Tally.{Tally}
-use Rattle.generator.specs.Summary.{Counts}
-use Rattle.generator.proofs.OneByOne.{run-append, run-length}
-use Rattle.serve.specs.Ran.{Ran}
+use Rattle.serve.proofs.Below.{List, [], length, map, sym, ap, ◌∙◌, subst, Result, Ok, Err, IfOk, length-map, Reply, Tree, PlainReply, reply_of, PlainWorld, Run, plain_run, start, World, Reading, Reads, plain, IsReadable, say, Tally, Counts, run-append, run-length, Ran}
+use Rattle.std.proofs.Common.{◌≡◌, ◌∷◌, ◌++◌}
 
 -- the replies to one command, and the world after it, are the plain machine's
 abbrev pub RunsOne : Tree → World → World → List Reply → Type 0

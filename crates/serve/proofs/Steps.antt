@@ -1,21 +1,6 @@
 -- The draws and the commands of one step.
-use Rattle.std.proofs.Common.{◌≡◌, ℕ, zero, suc, ◌+◌, ◌-◌, ◌*◌, ◌==◌, if◌then◌else◌, List, [], ◌∷◌, ◌++◌, map, refl, sym, ap, ◌∙◌, arith}
-use Rattle.std.specs.Prelude.{false}
-use Rattle.std.specs.List.{range_with_len}
-use Rattle.std.proofs.Math.Dec.{eqb-suc-zero}
-use Rattle.std.proofs.lemmas.List.{append_assoc}
-use Rattle.std.proofs.lemmas.List.FromFn.{map-range_with_len_more}
-use Rattle.py_node.specs.Tree.{Tree}
-use Rattle.generator.specs.Draws.{next, after}
-use Rattle.plain_machine.specs.Answer.{plain_run}
-use Rattle.plain_machine.specs.Start.{start}
-use Rattle.class_world.specs.declared.world.World.{World}
-use Rattle.class_world.specs.Reading.{IsReadable}
-use Rattle.vm_eval.specs.Say.{say}
-use Rattle.generator.specs.declared.tally.Tally.{Tally}
-use Rattle.generator.specs.Summary.{Counts}
-use Rattle.generator.specs.Commands.{generated, class_command, change_command}
-use Rattle.serve.specs.Ran.{Ran}
+use Rattle.serve.proofs.Below.{ℕ, zero, suc, List, [], map, refl, sym, ap, ◌∙◌, arith, false, range_with_len, eqb-suc-zero, append_assoc, map-range_with_len_more, Tree, next, after, plain_run, start, World, IsReadable, say, Tally, Counts, generated, class_command, change_command, Ran}
+use Rattle.std.proofs.Common.{◌≡◌, ◌+◌, ◌-◌, ◌*◌, ◌==◌, if◌then◌else◌, ◌∷◌, ◌++◌}
 
 -- the classes made so far, and the changes
 abbrev pub classes_made : ℕ → ℕ → List Tree

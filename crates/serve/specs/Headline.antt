@@ -1,23 +1,7 @@
 -- What the program writes: what answers the text that was read, or what the replies to generated commands add up to.
-use Rattle.std.specs.Prelude.{◌≡◌, ℕ, ◌≤◌, ◌++◌, List, length, Ok, Err}
-use Rattle.outside.specs.declared.words.Question.{Question}
-use Rattle.outside.specs.declared.words.Question.TheVariants.{Run as RunQuestion, Share, Check}
-use Rattle.py_node.specs.Tree.{Text, Tree}
-use Rattle.plain_machine.specs.Lines.{replies_text}
-use Rattle.script_text.specs.Script.{script_of}
-use Rattle.script_text.specs.Sessions.{sessions_of}
-use Rattle.json_text.specs.declared.error.ScriptError.{ScriptError as Refusal}
-use Rattle.plain_machine.specs.Answer.{Run, plain_run}
-use Rattle.plain_machine.specs.ClassText.{classes_text}
-use Rattle.plain_machine.specs.Start.{start}
-use Rattle.hierarchy_text.specs.Spelled.{PlainClass, hierarchy_of}
-use Rattle.report_text.specs.PlainReport.{plain_report}
-use Rattle.vm_eval.specs.Say.{say}
-use Rattle.shared_vm.specs.Journal.{PlainEntry, Legal}
-use Rattle.shared_run.specs.Mix.{Mix}
-use Rattle.shared_run.specs.JournalText.{journal_text}
-use Rattle.generator.specs.Commands.{generated}
-use Rattle.generator.specs.Summary.{summary}
+use Rattle.serve.specs.Below.{ℕ, List, length, Ok, Err, Question, Share, Check, Text, Tree, replies_text, script_of, sessions_of, ScriptError as Refusal, Run, plain_run, classes_text, start, PlainClass, hierarchy_of, plain_report, say, PlainEntry, Legal, Mix, journal_text, generated, summary}
+use Rattle.std.specs.Prelude.{◌≡◌, ◌≤◌, ◌++◌}
+use Rattle.outside.specs.declared.words.Question.TheVariants.{Run as RunQuestion}
 
 -- what is written for a run: its replies, and then the classes that scripts made in the world after it
 abbrev pub text_of : Run → Text

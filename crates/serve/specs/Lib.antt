@@ -1,3 +1,4 @@
+pub mod Below
 pub mod Status
 pub mod Headline
 pub mod Ran

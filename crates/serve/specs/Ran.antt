@@ -1,13 +1,6 @@
 -- What holds while commands are run one at a time.
-use Rattle.std.specs.Prelude.{◌≡◌, List}
-use Rattle.py_node.specs.Tree.{Tree}
-use Rattle.generator.specs.declared.tally.Tally.{Tally}
-use Rattle.generator.specs.Summary.{Counts}
-use Rattle.plain_machine.specs.Answer.{plain_run}
-use Rattle.plain_machine.specs.Start.{start}
-use Rattle.class_world.specs.declared.world.World.{World}
-use Rattle.class_world.specs.Reading.{Reading, Reads, plain}
-use Rattle.vm_eval.specs.Say.{say}
+use Rattle.serve.specs.Below.{List, Tree, Tally, Counts, plain_run, start, World, Reading, Reads, plain, say}
+use Rattle.std.specs.Prelude.{◌≡◌}
 
 -- after these commands, each with 10,000 units, the plain machine's world is this one, and its replies are counted
 abbrev pub Ran : List Tree → World → Tally → Type 0

@@ -1,7 +1,5 @@
 -- The exit status of each way to end, and the word for it.
-use Rattle.std.specs.Prelude.{ℕ, codes, Option, Some, None}
-use Rattle.py_node.specs.Tree.{Text}
-use Rattle.json_text.specs.Json.{error_word}
+use Rattle.serve.specs.Below.{ℕ, codes, Option, Some, None, Text, error_word}
 use Rattle.serve.specs.declared.status.Status.{Status}
 use Rattle.serve.specs.declared.status.Status.TheVariants.{Done, Usage, Script, ReadFault, WriteFault, OutOfMemory, TooLarge}
 

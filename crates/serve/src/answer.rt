@@ -1,9 +1,7 @@
 //! A text that is read from a source and answered.
 
-ghost use Rattle.std.specs.Prelude.{◌≡◌, ◌<◌, ◌≤◌, ◌+◌, ◌^◌, [], ◌++◌, ℕ, List, length, take, drop, Some, IfOk, Err};
-ghost use Rattle.std.specs.Option.{ForSome};
-ghost use Rattle.outside.specs.Count.{Rose};
-ghost use Rattle.json_text.specs.declared.error.ScriptError.{ScriptError as Refusal};
+ghost use Rattle.serve.specs.Below.{[], ℕ, List, length, take, drop, Some, IfOk, Err, ForSome, Rose, ScriptError as Refusal};
+ghost use Rattle.std.specs.Prelude.{◌≡◌, ◌<◌, ◌≤◌, ◌+◌, ◌^◌, ◌++◌};
 ghost use Rattle.serve.specs.Headline.{IsAnswer, IsRefused, IsRoomFor, IsSpelled};
 ghost use Rattle.serve.specs.Status.{HasReadAll, IsDoneOrPoor};
 
@@ -11,11 +9,11 @@ use crate::checking::check_text;
 use crate::script::script_text;
 use crate::sessions::sessions_text;
 use crate::status::Status;
-use json_text::ScriptFault;
 use outside::read_all::read_all;
 use outside::words::Question;
 use outside::write_all::write_all;
 use outside::{ReadEnd, Sink, Source};
+use script_text::json_text::ScriptFault;
 use std::sync::Wait;
 use std::thread::Threads;
 

@@ -1,18 +1,15 @@
 //! A hierarchy that is checked.
 
-ghost use Rattle.std.specs.Prelude.{◌≡◌, IfOk, Err};
-ghost use Rattle.order_check.specs.Hierarchy.{AreKeyed};
-ghost use Rattle.order_check.specs.Report.{IsReport, AreFound};
-ghost use Rattle.hierarchy_text.specs.Spelled.{hierarchy_of};
-ghost use Rattle.json_text.specs.declared.error.ScriptError.{ScriptError as Refusal};
+ghost use Rattle.serve.specs.Below.{IfOk, Err, AreKeyed, IsReport, AreFound, hierarchy_of, ScriptError as Refusal};
+ghost use Rattle.std.specs.Prelude.{◌≡◌};
 ghost use Rattle.serve.specs.Headline.{IsReportOf};
 
-use hierarchy_text::read_hierarchy;
-use json_text::ScriptFault;
+use order_check::hierarchy_text::read_hierarchy;
+use order_check::report_text::write_report;
 use order_check::{Hierarchy, Report, check, check_par};
 use outside::words::Pace;
 use py_node::OutOfMemory;
-use report_text::write_report;
+use script_text::json_text::ScriptFault;
 use std::thread::Threads;
 
 /// The report of the hierarchy that bytes spell.

@@ -1,10 +1,7 @@
 //! The commands that a seed generates: they are run one at a time, and their replies counted.
 
-ghost use Rattle.std.specs.Prelude.{◌≡◌, ◌+◌, ◌<◌, ◌≤◌, ◌^◌, [], ◌∷◌, ◌++◌, IfOk, OnOk, List, ℕ, length, take, Some};
-ghost use Rattle.std.specs.Option.{ForSome};
-ghost use Rattle.outside.specs.Count.{Rose};
-ghost use Rattle.py_node.specs.Tree.{Tree, tree_of};
-ghost use Rattle.class_world.specs.Reading.{IsReadable};
+ghost use Rattle.serve.specs.Below.{[], IfOk, OnOk, List, ℕ, length, take, Some, ForSome, Rose, Tree, tree_of, IsReadable};
+ghost use Rattle.std.specs.Prelude.{◌≡◌, ◌+◌, ◌<◌, ◌≤◌, ◌^◌, ◌∷◌, ◌++◌};
 ghost use Rattle.serve.specs.Headline.{generation_text};
 ghost use Rattle.serve.specs.Ran.{Ran};
 ghost use Rattle.serve.specs.Status.{IsDoneOrPoor, IsWriteEnd};

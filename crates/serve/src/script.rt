@@ -1,13 +1,11 @@
 //! A script that is run.
 
-ghost use Rattle.std.specs.Prelude.{◌≡◌, IfOk, Err};
-ghost use Rattle.script_text.specs.Script.{script_of};
-ghost use Rattle.json_text.specs.declared.error.ScriptError.{ScriptError as Refusal};
+ghost use Rattle.serve.specs.Below.{IfOk, Err, script_of, ScriptError as Refusal, trees_in};
+ghost use Rattle.std.specs.Prelude.{◌≡◌};
 ghost use Rattle.serve.specs.Headline.{IsTextOf, run_text};
-ghost use Rattle.vm_eval.specs.Runs.{trees_in};
 
-use json_text::ScriptFault;
 use py_node::{Command, OutOfMemory};
+use script_text::json_text::ScriptFault;
 use script_text::{read_script, write_replies};
 use std::alloc::Global;
 use vm_eval::VirtualMachine;

@@ -1,17 +1,15 @@
 //! Sessions of callers who share a machine.
 
-ghost use Rattle.std.specs.Prelude.{◌≡◌, ◌<◌, vec_len, IfOk, Err};
-ghost use Rattle.std.specs.List.{All};
-ghost use Rattle.script_text.specs.Sessions.{sessions_of, session_trees};
-ghost use Rattle.json_text.specs.declared.error.ScriptError.{ScriptError as Refusal};
+ghost use Rattle.serve.specs.Below.{vec_len, IfOk, Err, All, sessions_of, session_trees, ScriptError as Refusal};
+ghost use Rattle.std.specs.Prelude.{◌≡◌, ◌<◌};
 ghost use Rattle.serve.specs.Headline.{IsMixOf, IsMixText};
 
-use json_text::ScriptFault;
 use py_node::{Command, OutOfMemory};
+use script_text::json_text::ScriptFault;
 use script_text::read_sessions;
 use seat_lock::MOST_TURNS;
-use shared_run::{share_run, write_journal};
 use shared_vm::OpenGate;
+use shared_vm::shared_run::{share_run, write_journal};
 use std::sync::Wait;
 use std::thread::Threads;
 

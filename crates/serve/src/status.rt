@@ -1,6 +1,7 @@
 //! How the program ends.
 
-ghost use Rattle.std.specs.Prelude.{◌≡◌, option_map};
+ghost use Rattle.serve.specs.Below.{option_map};
+ghost use Rattle.std.specs.Prelude.{◌≡◌};
 ghost use Rattle.serve.specs.Status.{exit_of, word_of};
 
 use script_text::ScriptError;

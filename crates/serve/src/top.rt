@@ -1,12 +1,7 @@
 //! The one top call: words, a source and a sink.
 
-ghost use Rattle.std.specs.Prelude.{◌≡◌, ◌<◌, ◌≤◌, ◌+◌, ◌^◌, [], ◌++◌, ℕ, List, length, take, drop, map, string_bytes, Some, None, Ok};
-ghost use Rattle.std.specs.Option.{ForSome};
-ghost use Rattle.outside.specs.Count.{Rose};
-ghost use Rattle.outside.specs.Words.{job_in};
-ghost use Rattle.outside.specs.declared.words.Generation.{Generation};
-ghost use Rattle.outside.specs.declared.words.Question.{Question};
-ghost use Rattle.json_text.specs.declared.error.ScriptError.{ScriptError as Refusal};
+ghost use Rattle.serve.specs.Below.{[], ℕ, List, length, take, drop, map, string_bytes, Some, None, Ok, ForSome, Rose, job_in, Generation, Question, ScriptError as Refusal};
+ghost use Rattle.std.specs.Prelude.{◌≡◌, ◌<◌, ◌≤◌, ◌+◌, ◌^◌, ◌++◌};
 ghost use Rattle.serve.specs.Headline.{IsAnswer, IsRefused, IsRoomFor, IsSpelled, generation_text};
 ghost use Rattle.serve.specs.Status.{HasReadAll, IsDoneOrPoor, IsWriteEnd};
 

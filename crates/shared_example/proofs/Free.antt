@@ -1,13 +1,6 @@
 -- Seats that are free.
-use Rattle.std.proofs.Common.{◌≡◌, ℕ, List, ◌++◌, Option, Some, Ok, ap, ◌∙◌, subst}
-use Rattle.std.specs.Prelude.{option_to_list, IfSome}
-use Rattle.std.specs.List.{All}
-use Rattle.std.proofs.lemmas.List.Elements.{All-pop}
-use Rattle.py_node.specs.Tree.{Tree}
-use Rattle.seat_lock.specs.Known.{TableId, Known, IsFree}
-use Rattle.shared_vm.specs.declared.entry.Entry.{Entry}
-use Rattle.shared_vm.specs.declared.entry.Receipt.{Receipt}
-use Rattle.shared_vm.specs.Turns.{Executed}
+use Rattle.shared_example.proofs.Below.{ℕ, List, Option, Some, Ok, ap, ◌∙◌, subst, option_to_list, IfSome, All, All-pop, Tree, TableId, Known, IsFree, Entry, Receipt, Executed}
+use Rattle.std.proofs.Common.{◌≡◌, ◌++◌}
 
 -- one that executed a command is free again
 pub free_again : (id : TableId) (old new : Known Entry) (command : Tree) (budget : ℕ) (r : Receipt) → IsFree id old → Executed old new command budget (Ok r) → IsFree id new

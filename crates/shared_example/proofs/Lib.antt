@@ -1,2 +1,4 @@
+pub mod Lemmas
+pub mod Below
 mod Free
 mod Sent

@@ -1,6 +1,6 @@
 -- What may go to another thread: a reference to a shared machine, and a seat.
 use denote.Param.Send.{IsSend, IsSync, sendable}
-use Rattle.std.proofs.Crossing.{crosses}
+use Rattle.shared_example.proofs.Below.{crosses}
 use Rattle.py_node.proofs.expr.Constant.TheSendSync as constant
 use Rattle.py_node.proofs.expr.Word.TheSendSync as word
 use Rattle.py_node.proofs.raised.Kind.TheSendSync as kind

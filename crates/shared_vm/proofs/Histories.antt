@@ -1,21 +1,7 @@
 -- The turns that a book stands for, once a step more was made.
-use Rattle.std.proofs.Common.{◌≡◌, ℕ, Bool, true, false, ◌||◌, List, [], ◌∷◌, ◌++◌, length, Option, Some, None, Ok, Err, refl, sym, ap, ◌∙◌, subst}
-use Rattle.std.specs.Prelude.{slice_get, option_to_list, IfSome}
-use Rattle.std.proofs.lemmas.List.{append-nil}
-use Rattle.std.proofs.lemmas.List.Elements.{filter_map-append}
-use Rattle.std.proofs.lemmas.List.Folds.{list_any-append}
+use Rattle.shared_vm.proofs.Below.{ℕ, Bool, true, false, List, [], length, Option, Some, None, Ok, Err, refl, sym, ap, ◌∙◌, subst, slice_get, option_to_list, IfSome, append-nil, filter_map-append, list_any-append, Text, Tree, Turn, turns_by, Known, IsSameSeat, with_turn, Entry, Receipt, OutOfMemory, Failed, plain_journal, Legal, PyStrInterned, Pages, Adds, IsNameOf, IsOf, IsTrue, Stepped, Tells, entries_in, has_lost, Stands, turn, newest, Makes, Executed, Named}
+use Rattle.std.proofs.Common.{◌≡◌, ◌||◌, ◌∷◌, ◌++◌}
 use mathlib.Core.List.{IsPrefix}
-use Rattle.py_node.specs.Tree.{Text, Tree}
-use Rattle.seat_lock.specs.declared.history.Turn.{Turn}
-use Rattle.seat_lock.specs.History.{turns_by}
-use Rattle.seat_lock.specs.Known.{Known, IsSameSeat, with_turn}
-use Rattle.shared_vm.specs.declared.entry.Entry.{Entry}
-use Rattle.shared_vm.specs.declared.entry.Receipt.{Receipt}
-use Rattle.shared_vm.specs.declared.entry.ExecFault.TheVariants.{OutOfMemory, Failed}
-use Rattle.shared_vm.specs.Journal.{plain_journal, Legal}
-use Rattle.py_node.specs.declared.refs.PyStrInterned.{PyStrInterned}
-use Rattle.shared_vm.specs.Book.{Pages, Adds, IsNameOf, IsOf, IsTrue, Stepped, Tells}
-use Rattle.shared_vm.specs.Turns.{entries_in, has_lost, Stands, turn, newest, Makes, Executed, Named}
 
 left_at_end : {A : Type 0} (xs : List A) (left : Option A) → slice_get (xs ++ option_to_list left) (length xs) ≡ left
 left_at_end [] None = refl

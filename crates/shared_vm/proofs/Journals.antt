@@ -1,11 +1,6 @@
 -- Journals that become longer by an entry, and the numbers of a seat's entries.
-use Rattle.std.proofs.Common.{append_assoc, ◌≡◌, ◌≢◌, ℕ, ◌+◌, ◌≤◌, ◌⊎◌, cond, eqb, List, [], ◌∷◌, ◌++◌, length, inl, inr, refl, ap, ap₂, ◌∙◌, subst, arith, eq-eqb, ne_eqb}
-use Rattle.std.specs.List.{sum_by}
-use Rattle.std.proofs.lemmas.List.Sums.{fold_push, sum_by-append, sum_by-cons, count_by-le-length}
-use Rattle.std.proofs.lemmas.List.{map-append, length-map}
-use Rattle.plain_machine.specs.Start.{start}
-use Rattle.shared_vm.specs.declared.entry.Entry.{Entry}
-use Rattle.shared_vm.specs.Journal.{PlainEntry, plain_entry, plain_journal, world_after, replay, count_of, Follows, Legal}
+use Rattle.shared_vm.proofs.Below.{append_assoc, ℕ, cond, eqb, List, [], length, inl, inr, refl, ap, ap₂, ◌∙◌, subst, arith, eq-eqb, ne_eqb, sum_by, fold_push, sum_by-append, sum_by-cons, count_by-le-length, map-append, length-map, start, Entry, PlainEntry, plain_entry, plain_journal, world_after, replay, count_of, Follows, Legal}
+use Rattle.std.proofs.Common.{◌≡◌, ◌≢◌, ◌+◌, ◌≤◌, ◌⊎◌, ◌∷◌, ◌++◌}
 
 module _ {A : Type 0} where
   heads : (x y : A) (xs ys : List A) → x ∷ xs ≡ y ∷ ys → x ≡ y

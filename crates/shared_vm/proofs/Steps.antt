@@ -1,16 +1,6 @@
 -- What a run of one command, and its entry, come to.
-use Rattle.std.proofs.Common.{◌≡◌, false, List, [], ◌∷◌, ◌++◌, Result, Ok, Err, refl, sym, ap, ◌∙◌, subst}
-use Rattle.std.specs.Prelude.{OnErr}
-use Rattle.std.proofs.lemmas.List.{map_push}
-use Rattle.py_node.specs.Replies.{reply_of}
-use Rattle.py_node.specs.Tree.{tree_of}
-use Rattle.plain_machine.specs.Answer.{Run}
-use Rattle.plain_machine.specs.Start.{start}
-use Rattle.class_world.specs.Reading.{Reading, Reads, plain, IsReadable}
-use Rattle.vm_eval.specs.State.{State}
-use Rattle.shared_vm.specs.declared.entry.Entry.{Entry}
-use Rattle.shared_vm.specs.Journal.{plain_entry, plain_journal, run_of, replay, count_of, Legal}
-use Rattle.shared_vm.specs.Book.{Pages, IsTrue, Ran}
+use Rattle.shared_vm.proofs.Below.{false, List, [], Result, Ok, Err, refl, sym, ap, ◌∙◌, subst, OnErr, map_push, reply_of, tree_of, Run, start, Reading, Reads, plain, IsReadable, State, Entry, plain_entry, plain_journal, run_of, replay, count_of, Legal, Pages, IsTrue, Ran}
+use Rattle.std.proofs.Common.{◌≡◌, ◌∷◌, ◌++◌}
 use Rattle.shared_vm.proofs.Journals.{legal_none, legal_more, replay_more}
 
 -- the entry of a command that was run

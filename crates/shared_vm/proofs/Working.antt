@@ -1,18 +1,7 @@
 -- What one more command does to a session's seat.
-use Rattle.std.proofs.Common.{◌≡◌, ℕ, true, false, ◌+◌, ◌≤◌, List, [], ◌∷◌, ◌++◌, length, map, Some, None, Result, Ok, Err, refl, sym, ap, ap₂, ◌∙◌, arith, append_assoc, length-append}
-use Rattle.std.proofs.lemmas.List.{append-nil, map_push}
-use Rattle.std.proofs.lemmas.List.Elements.{All-push, All-nil}
+use Rattle.shared_vm.proofs.Below.{ℕ, true, false, List, [], length, map, Some, None, Result, Ok, Err, refl, sym, ap, ap₂, ◌∙◌, arith, append_assoc, length-append, append-nil, map_push, All-push, All-nil, Tree, tree_of, Turn, TableId, Known, IsFree, Entry, Receipt, ExecFault, OutOfMemory, Failed, IsOf, entries_in, Makes, Executed, Leaves, turn, MayPerform, Stays, IsTurnOf, commands_in, Performed}
+use Rattle.std.proofs.Common.{◌≡◌, ◌+◌, ◌≤◌, ◌∷◌, ◌++◌}
 use mathlib.Core.List.{IsPrefix}
-use Rattle.py_node.specs.Tree.{Tree, tree_of}
-use Rattle.seat_lock.specs.declared.history.Turn.{Turn}
-use Rattle.seat_lock.specs.Known.{TableId, Known, IsFree}
-use Rattle.shared_vm.specs.declared.entry.Entry.{Entry}
-use Rattle.shared_vm.specs.declared.entry.Receipt.{Receipt}
-use Rattle.shared_vm.specs.declared.entry.ExecFault.{ExecFault}
-use Rattle.shared_vm.specs.declared.entry.ExecFault.TheVariants.{OutOfMemory, Failed}
-use Rattle.shared_vm.specs.Book.{IsOf}
-use Rattle.shared_vm.specs.Turns.{entries_in, Makes, Executed, Leaves, turn}
-use Rattle.shared_vm.specs.Work.{MayPerform, Stays, IsTurnOf, commands_in, Performed}
 use Rattle.shared_vm.proofs.Histories.{entries_more}
 
 prefix_trans : {A : Type 0} (xs ys zs : List A) → IsPrefix xs ys → IsPrefix ys zs → IsPrefix xs zs

@@ -1,13 +1,6 @@
 -- The book that is under the lock: what always holds of it, and what a step of it comes to.
-use Rattle.std.specs.Prelude.{◌≡◌, ℕ, true, false, List, [], ◌∷◌, ◌++◌, length, Option, Some, None, Result, Ok, Err, IfSome, option_to_list, slice_get}
-use Rattle.py_node.specs.declared.refs.PyStrInterned.{PyStrInterned}
-use Rattle.py_node.specs.Replies.{PlainReply, reply_of}
-use Rattle.py_node.specs.Tree.{Text, Tree, tree_of}
-use Rattle.plain_machine.specs.Answer.{plain_run}
-use Rattle.class_world.specs.Held.{Held}
-use Rattle.class_world.specs.Reading.{Reading, Reads, plain, IsReadable}
-use Rattle.vm_eval.specs.Say.{say}
-use Rattle.vm_eval.specs.State.{State}
+use Rattle.shared_vm.specs.Below.{ℕ, true, false, List, [], length, Option, Some, None, Result, Ok, Err, IfSome, option_to_list, slice_get, PyStrInterned, PlainReply, reply_of, Text, Tree, tree_of, plain_run, Held, Reading, Reads, plain, IsReadable, say, State}
+use Rattle.std.specs.Prelude.{◌≡◌, ◌∷◌, ◌++◌}
 use Rattle.shared_vm.specs.declared.entry.Entry.{Entry}
 use Rattle.shared_vm.specs.declared.entry.Receipt.{Receipt}
 use Rattle.shared_vm.specs.declared.entry.ExecFault.{ExecFault}

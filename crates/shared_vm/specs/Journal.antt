@@ -1,12 +1,6 @@
 -- Journals of commands, and which of them a plain machine could have kept.
-use Rattle.std.specs.Prelude.{◌≡◌, ◌==◌, ℕ, List, [], ◌∷◌, ◌++◌, map}
-use Rattle.std.specs.List.{count_by, fold}
-use Rattle.py_node.specs.Replies.{PlainReply, reply_of}
-use Rattle.py_node.specs.Tree.{Tree, tree_of}
-use Rattle.plain_machine.specs.Answer.{Run, plain_run}
-use Rattle.plain_machine.specs.Plain.{PlainWorld}
-use Rattle.plain_machine.specs.Start.{start}
-use Rattle.vm_eval.specs.Say.{say}
+use Rattle.shared_vm.specs.Below.{ℕ, List, [], map, count_by, fold, PlainReply, reply_of, Tree, tree_of, Run, plain_run, PlainWorld, start, say}
+use Rattle.std.specs.Prelude.{◌≡◌, ◌==◌, ◌∷◌, ◌++◌}
 use Rattle.shared_vm.specs.declared.entry.Entry.{Entry}
 
 -- a command of a seat, the how manyth of it this is, the units that it had, and its reply

@@ -1,12 +1,7 @@
 -- The turns that a book stands for, and what an execute leaves its seat with.
-use Rattle.std.specs.Prelude.{◌≡◌, ℕ, Bool, true, false, List, length, Option, Some, None, Result, Ok, Err, IfSome, slice_get}
-use Rattle.std.specs.List.{filter_map, list_any}
+use Rattle.shared_vm.specs.Below.{ℕ, Bool, true, false, List, length, Option, Some, None, Result, Ok, Err, IfSome, slice_get, filter_map, list_any, PyStrInterned, Text, Tree, Turn, turns_by, Known, with_turn}
+use Rattle.std.specs.Prelude.{◌≡◌}
 use mathlib.Core.List.{IsPrefix}
-use Rattle.py_node.specs.declared.refs.PyStrInterned.{PyStrInterned}
-use Rattle.py_node.specs.Tree.{Text, Tree}
-use Rattle.seat_lock.specs.declared.history.Turn.{Turn}
-use Rattle.seat_lock.specs.History.{turns_by}
-use Rattle.seat_lock.specs.Known.{Known, with_turn}
 use Rattle.shared_vm.specs.declared.entry.Entry.{Entry}
 use Rattle.shared_vm.specs.declared.entry.Receipt.{Receipt}
 use Rattle.shared_vm.specs.declared.entry.ExecFault.{ExecFault}

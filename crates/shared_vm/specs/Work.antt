@@ -1,12 +1,7 @@
 -- What a session of commands leaves its seat with.
-use Rattle.std.specs.Prelude.{◌≡◌, ℕ, ◌+◌, ◌≤◌, List, ◌++◌, length, map, IfSome}
-use Rattle.std.specs.List.{All}
+use Rattle.shared_vm.specs.Below.{ℕ, List, length, map, IfSome, All, Tree, tree_of, Turn, MOST_TURNS, turns_by, TableId, Known, IsFree}
+use Rattle.std.specs.Prelude.{◌≡◌, ◌+◌, ◌≤◌, ◌++◌}
 use mathlib.Core.List.{IsPrefix}
-use Rattle.py_node.specs.Tree.{Tree, tree_of}
-use Rattle.seat_lock.specs.declared.history.Turn.{Turn}
-use Rattle.seat_lock.specs.declared.seat.TheConstants.{MOST_TURNS}
-use Rattle.seat_lock.specs.History.{turns_by}
-use Rattle.seat_lock.specs.Known.{TableId, Known, IsFree}
 use Rattle.shared_vm.specs.declared.entry.Entry.{Entry}
 use Rattle.shared_vm.specs.Turns.{entries_in}
 

@@ -1,8 +1,7 @@
 //! The book: a machine, and the journal of the commands that it ran.
 
-ghost use Rattle.std.specs.Prelude.{◌≡◌, ◌++◌, ◌∷◌, [], length, IfOk, OnErr, IfSome, Option, true, false};
-ghost use Rattle.py_node.specs.Tree.{tree_of};
-ghost use Rattle.class_log.specs.Following.{Keeps};
+ghost use Rattle.shared_vm.specs.Below.{[], length, IfOk, OnErr, IfSome, Option, true, false, tree_of, Keeps};
+ghost use Rattle.std.specs.Prelude.{◌≡◌, ◌++◌, ◌∷◌};
 ghost use Rattle.shared_vm.specs.declared.entry.Entry.{Entry};
 ghost use Rattle.shared_vm.specs.Book.{Adds, IsNameOf, IsOf, IsTrue, Stepped, Tells};
 

@@ -14,7 +14,9 @@ mod gate;
 mod number;
 mod session;
 mod shared;
+pub mod shared_run;
 mod single;
+pub mod viewed_vm;
 
 pub use book::Book;
 pub use entry::{Entry, ExecFault, Receipt};

@@ -1,7 +1,7 @@
 //! A session: commands that a seat executes, one after another.
 
-ghost use Rattle.std.specs.Prelude.{◌≡◌, true, vec_len};
-ghost use Rattle.vm_eval.specs.Runs.{trees_in};
+ghost use Rattle.shared_vm.specs.Below.{true, vec_len, trees_in};
+ghost use Rattle.std.specs.Prelude.{◌≡◌};
 ghost use Rattle.shared_vm.specs.Work.{MayPerform, Performed, Stays};
 
 use crate::gate::Gate;

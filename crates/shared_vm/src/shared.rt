@@ -1,12 +1,8 @@
 //! The shared machine.
 
-ghost use Rattle.std.specs.Prelude.{◌≡◌, ℕ, ◌<◌, ◌++◌, List, [], ◌∷◌, length, vec_len, true, false, Some, slice_get, IsOk, IfOk};
-ghost use Rattle.std.specs.List.{All};
+ghost use Rattle.shared_vm.specs.Below.{ℕ, List, [], length, vec_len, true, false, Some, slice_get, IsOk, IfOk, All, tree_of, Turn, turns_by, IsWhole, IsFree, IsSameSeat, fresh_seat, with_turn};
+ghost use Rattle.std.specs.Prelude.{◌≡◌, ◌<◌, ◌++◌, ◌∷◌};
 ghost use mathlib.Core.List.{IsPrefix};
-ghost use Rattle.py_node.specs.Tree.{tree_of};
-ghost use Rattle.seat_lock.specs.declared.history.Turn.{Turn};
-ghost use Rattle.seat_lock.specs.History.{turns_by, IsWhole};
-ghost use Rattle.seat_lock.specs.Known.{IsFree, IsSameSeat, fresh_seat, with_turn};
 ghost use Rattle.shared_vm.specs.declared.entry.Entry.{Entry};
 ghost use Rattle.shared_vm.specs.Journal.{Legal, plain_journal};
 ghost use Rattle.shared_vm.specs.Book.{IsReplay};

@@ -1,10 +1,7 @@
 //! A run of one command.
 
-ghost use Rattle.std.specs.Prelude.{◌≡◌, IfOk, OnOk, OnErr, true, false};
-ghost use Rattle.py_node.specs.Replies.{reply_of};
-ghost use Rattle.py_node.specs.Tree.{tree_of};
-ghost use Rattle.class_log.specs.Following.{Keeps};
-ghost use Rattle.class_world.specs.Reading.{IsReadable};
+ghost use Rattle.shared_vm.specs.Below.{IfOk, OnOk, OnErr, true, false, reply_of, tree_of, Keeps, IsReadable};
+ghost use Rattle.std.specs.Prelude.{◌≡◌};
 ghost use Rattle.shared_vm.specs.Book.{Ran};
 
 use py_node::{Command, OutOfMemory, Reply};

@@ -2,7 +2,7 @@
 
 use crate::changes::{A, append, made};
 use crate::stop::Stop;
-use class_log::ClassChange;
+use class_table::class_log::ClassChange;
 use class_view::{ClassReader, ClassWriter, Gone, RuledPane};
 use py_node::{PyObjectRef, PyStrInterned, PyTypeRef};
 use std::alloc::Global;

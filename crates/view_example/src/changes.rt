@@ -3,7 +3,7 @@
 ghost use Rattle.std.specs.Prelude.{◌≡◌};
 
 use crate::stop::Stop;
-use class_log::ClassChange;
+use class_table::class_log::ClassChange;
 use class_view::ClassWriter;
 use py_node::{OutOfMemory, PyAttributes, PyStrInterned, PyTypeFlags, PyTypeRef};
 use std::alloc::Global;

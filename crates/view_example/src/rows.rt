@@ -3,7 +3,7 @@
 use crate::changes::{A, D, NAME_X, OBJECT, P, Q, X, append, made};
 use crate::stop::Stop;
 use crate::told::{find_apart, publish_and_find};
-use class_log::ClassChange;
+use class_table::class_log::ClassChange;
 use class_view::{ClassReader, ClassWriter, RuledPane};
 use py_node::{PyObjectRef, PyTypeRef};
 use std::alloc::Global;

@@ -4,9 +4,9 @@ ghost use Rattle.std.specs.Prelude.{◌≡◌, List, IfOk, OnOk};
 ghost use Rattle.left_right.specs.Sides.{view};
 ghost use Rattle.py_node.specs.Attributes.{is_same_name};
 ghost use Rattle.class_model.specs.Class.{found};
-ghost use Rattle.class_log.specs.Change.{Change};
-ghost use Rattle.class_log.specs.Shown.{shown};
-ghost use Rattle.class_log.specs.Following.{BeginsWith};
+ghost use Rattle.class_table.specs.ClassLog.Change.{Change};
+ghost use Rattle.class_table.specs.ClassLog.Shown.{shown};
+ghost use Rattle.class_table.specs.ClassLog.Following.{BeginsWith};
 ghost use Rattle.class_view.specs.Lists.{Follows};
 ghost use Rattle.class_view.specs.Known.{knows_of};
 

@@ -1,28 +1,7 @@
 -- What calls tell that make an object before or after they ask a task.
-use Rattle.std.proofs.Common.{◌≡◌, ℕ, ℤ, true, List, Result, Ok, IsTrue, length, cond, nat_le, subst, ap, ◌∙◌}
-use Rattle.std.specs.Global.{Vec}
-use Rattle.std.proofs.lemmas.Result.{IfOk-weaker}
-use Rattle.py_node.specs.declared.refs.PyObjectRef.{PyObjectRef}
-use Rattle.py_node.specs.declared.raised.Cause.TheVariants.{TooLong}
-use Rattle.py_node.specs.declared.task.Answer.{Answer}
-use Rattle.py_node.specs.declared.task.PyResult.{PyResult}
-use Rattle.py_node.specs.declared.task.PyResult.TheVariants.{Done}
-use Rattle.py_node.specs.declared.task.Task.{Task}
-use Rattle.plain_machine.specs.Answer.{Out, answer}
-use Rattle.plain_machine.specs.Known.{the_int}
-use Rattle.plain_machine.specs.Plain.{Datum, ANumber, PlainWorld, PlainTask}
-use Rattle.plain_machine.specs.Row.{most_items}
-use Rattle.plain_machine.specs.World.{with_node, next_node}
-use Rattle.class_world.specs.Held.{Held}
-use Rattle.class_world.specs.Reading.{Reading, plain, task_of}
-use Rattle.class_world.specs.Sound.{Claim}
-use Rattle.class_world.proofs.Growth.{grows-on}
-use Rattle.vm_eval.specs.declared.machine.RunFault.{RunFault}
-use Rattle.vm_eval.specs.Asks.{Asked, ending_in, unnoted}
-use Rattle.vm_eval.specs.Say.{say}
-use Rattle.vm_eval.specs.State.{State}
-use Rattle.vm_calls.specs.Told.{EndIs, Tells, Told}
-use Rattle.vm_calls.specs.Views.{AskedWith, MakesNode, TellsItems, TellsMadeOf, ToldWith, lacks, made_of}
+use Rattle.vm_calls.proofs.Below.{ℕ, ℤ, true, List, Result, Ok, IsTrue, length, cond, nat_le, subst, ap, ◌∙◌, Vec, IfOk-weaker, PyObjectRef, TooLong, Answer, PyResult, Done, Task, Out, answer, the_int, Datum, ANumber, PlainWorld, PlainTask, most_items, with_node, next_node, Held, Reading, plain, task_of, Claim, grows-on, RunFault, Asked, ending_in, unnoted, say, State, EndIs, Tells, AskedWith, MakesNode, TellsItems, TellsMadeOf, ToldWith, lacks, made_of}
+use Rattle.std.proofs.Common.{◌≡◌}
+use Rattle.vm_calls.specs.Told.{Told}
 
 -- what an answer is told of is no failed machine
 was-clear : {A : Type 0} (Leads : Held → Held → A → Type 0) (of : A → List Claim) (old new : State) (x : A) → Tells Leads of old new (Ok x) → IsTrue old.failed → ⊥

@@ -1,14 +1,6 @@
 -- What is told of a number that may be missing, and of True and False.
-use Rattle.std.proofs.Common.{◌≡◌, ℕ, Bool, true, false, ◌||◌, eqb, Option, Some, None, IsTrue, inl, inr, refl, sym, ap}
-use Rattle.std.specs.Prelude.{unwrap_or}
-use Rattle.std.proofs.lemmas.Bool.{eqb-true}
-use Rattle.py_node.specs.declared.refs.PyObjectRef.{PyObjectRef}
-use Rattle.py_node.specs.declared.task.Answer.{Answer}
-use Rattle.py_node.specs.BuiltIns.{fixed_false, fixed_true}
-use Rattle.plain_machine.specs.Row.{truth}
-use Rattle.plain_machine.specs.World.{ref}
-use Rattle.answer_kinds.specs.Kinds.{is_truth_value}
-use Rattle.vm_calls.specs.Answers.{IsHint, IsHintOr}
+use Rattle.vm_calls.proofs.Below.{ℕ, Bool, true, false, eqb, Option, Some, None, IsTrue, inl, inr, refl, sym, ap, unwrap_or, eqb-true, PyObjectRef, Answer, fixed_false, fixed_true, truth, ref, is_truth_value, IsHint, IsHintOr}
+use Rattle.std.proofs.Common.{◌≡◌, ◌||◌}
 
 -- a hint, or what stands for it
 pub hint_or : (d : ℕ) (h : Option ℕ) (a : Answer) → IsHint h a → IsHintOr d (unwrap_or h d) a

@@ -1,17 +1,6 @@
 -- A task that the machine answers is answered by its kind.
-use Rattle.std.proofs.Common.{◌≡◌, ℕ, Ok, refl, ap}
-use Rattle.py_node.specs.declared.task.Answer.{Answer}
-use Rattle.py_node.specs.declared.task.PyResult.TheVariants.{Done}
-use Rattle.py_node.specs.declared.task.Task.{Task}
-use Rattle.plain_machine.specs.Answer.{Ending, Over, Outcome, Out, answer}
-use Rattle.plain_machine.specs.Plain.{PlainWorld, PlainAnswer, ProtocolJob, DoIsTrue, DoIndex, DoWhole, DoLength, DoHint, DoGetItem, DoSetItem, DoDelItem, DoGetSlice, DoSetSlice, DoDelSlice, DoGetIter, DoNext, DoCollect, DoContains, DoCount, DoFind, DoKeys, DoValues, DoItems, ToProtocol, Told}
-use Rattle.plain_machine.specs.World.{without_calls}
-use Rattle.class_world.specs.Held.{Held}
-use Rattle.class_world.specs.Reading.{Reading, IsReadable, plain, task_of, answer_of}
-use Rattle.answer_kinds.specs.Kinds.{IsOfKind}
-use Rattle.answer_kinds.specs.Rows.{protocol_row, GoesByRows, AnswersAreOfTheirKinds}
-use Rattle.vm_eval.specs.Asks.{Asked, unnoted}
-use Rattle.vm_eval.specs.Say.{say}
+use Rattle.vm_calls.proofs.Below.{ℕ, Ok, refl, ap, Answer, Done, Task, Ending, Over, Outcome, Out, answer, PlainWorld, PlainAnswer, ProtocolJob, DoIsTrue, DoIndex, DoWhole, DoLength, DoHint, DoGetItem, DoSetItem, DoDelItem, DoGetSlice, DoSetSlice, DoDelSlice, DoGetIter, DoNext, DoCollect, DoContains, DoCount, DoFind, DoKeys, DoValues, DoItems, ToProtocol, Told, without_calls, Held, Reading, IsReadable, plain, task_of, answer_of, IsOfKind, protocol_row, GoesByRows, AnswersAreOfTheirKinds, Asked, unnoted, say}
+use Rattle.std.proofs.Common.{◌≡◌}
 
 protocols-go : (w : PlainWorld) (job : ProtocolJob) (told : Told) → say w (ToProtocol job) told ≡ protocol_row w job told
 unfolding say

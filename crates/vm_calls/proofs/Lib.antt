@@ -1,4 +1,10 @@
+pub mod Lemmas
+pub mod Below
 pub mod Composed
 pub mod Hints
 pub mod Kinded
 pub mod Loading
+pub mod SlotTables
+pub mod OfProtocols
+pub mod AttributeLaws
+pub mod AnswerKinds

@@ -1,43 +1,13 @@
 -- A method that was loaded is the one that reading the attribute makes, and to call what was loaded is to call that.
-use Rattle.std.proofs.Common.{◌≡◌, ℕ, zero, suc, ◌<◌, Bool, true, false, cond, nat_lt, length, List, [], ◌∷◌, ◌++◌, Option, Some, None, Ok, Err, IsTrue, refl, sym, ap, ◌∙◌, subst, arith}
-use Rattle.py_node.specs.declared.refs.PyObjectRef.{PyObjectRef}
-use Rattle.py_node.specs.declared.raised.Cause.TheVariants.{DepthLimit}
-use Rattle.py_node.specs.declared.entry.SlotId.TheVariants.{Getattro}
-use Rattle.py_node.specs.declared.entry.SlotEntry.{SlotEntry}
-use Rattle.py_node.specs.declared.entry.SlotEntry.TheVariants.{Native}
-use Rattle.py_node.specs.declared.entry.NativeEntry.TheVariants.{OfObject}
+use Rattle.vm_calls.proofs.Below.{ℕ, zero, suc, Bool, true, false, cond, nat_lt, length, List, [], Option, Some, None, Ok, Err, IsTrue, refl, sym, ap, ◌∙◌, subst, arith, PyObjectRef, DepthLimit, Getattro, SlotEntry, Native, OfObject, Answer, PyMethod, Function, PyResult, Done, Budget, Started, Text, Found, Ending, Over, NoUnits, Outcome, Out, answer, asked, carry, closing, reach, step, the_dict, the_method, Datum, AMethod, PlainWorld, PlainTask, PlainAnswer, ADict, AsValue, AsDone, AsNumber, AsTruth, AsMaybe, AsObjects, AsExhausted, AsFunction, AsAttribute, AsStart, Bindings, DoGetAttr, DoLoadMethod, DoInvoke, DoCall, ToAttribute, ToCall, Ended, Answered, Told, Said, Asks, Ends, fault, value, class_at, datum_at, has_dict, slot_at, push_node, ref, with_node, next_node, without_calls, special_at, is_fast, own_value, reach-is, attribute_say, find, load, load_by, load_fast, load_found, call_job_say, is_of, kind_of, IsOfKind, AnswersAreOfTheirKinds, Reading, plain, answer_of, bindings, ending_in, unnoted, say, State, IsMethod, IsObject, InvokedIsCalled, LoadedIsRead, EndsAs}
+use Rattle.std.proofs.Common.{◌≡◌, ◌<◌, ◌∷◌, ◌++◌}
 use Rattle.py_node.specs.declared.entry.ObjectNative.TheVariants as object
-use Rattle.py_node.specs.declared.task.Answer.{Answer}
 use Rattle.py_node.specs.declared.task.Answer.TheVariants.{Method}
-use Rattle.py_node.specs.declared.task.PyMethod.{PyMethod}
-use Rattle.py_node.specs.declared.task.PyMethod.TheVariants.{Function}
-use Rattle.py_node.specs.declared.task.PyResult.{PyResult}
-use Rattle.py_node.specs.declared.task.PyResult.TheVariants.{Done, Raised, Budget}
-use Rattle.py_node.specs.Replies.{Started}
-use Rattle.py_node.specs.Tree.{Text}
-use Rattle.proto_attr.specs.declared.find.Found.{Found}
+use Rattle.py_node.specs.declared.task.PyResult.TheVariants.{Raised}
 use Rattle.proto_attr.specs.declared.find.Found.TheVariants as found
-use Rattle.plain_machine.specs.Answer.{Ending, Over, NoUnits, Outcome, Out, answer, asked, carry, closing, reach, step}
-use Rattle.plain_machine.specs.Known.{the_dict, the_method}
-use Rattle.plain_machine.specs.Plain.{Datum, AMethod, PlainWorld, PlainTask, PlainAnswer, ADict, AsValue, AsDone, AsNumber, AsTruth, AsMaybe, AsObjects, AsExhausted, AsFunction, AsAttribute, AsStart, Bindings, DoGetAttr, DoLoadMethod, DoInvoke, DoCall, ToAttribute, ToCall, Ended, Answered, Told, Said, Asks, Ends}
-use Rattle.plain_machine.specs.Row.{fault, value}
-use Rattle.plain_machine.specs.World.{class_at, datum_at, has_dict, slot_at, push_node, ref, with_node, next_node, without_calls}
-use Rattle.plain_machine.specs.Objects.{special_at, is_fast}
-use Rattle.plain_machine.specs.Dicts.{own_value}
-use Rattle.plain_machine.proofs.Follow.{reach-is}
-use Rattle.proto_attr.specs.Say.{attribute_say, find, load, load_by, load_fast, load_found}
-use Rattle.proto_call.specs.Say.{call_job_say}
-use Rattle.attribute_laws.specs.Methods as methods
-use Rattle.answer_kinds.specs.Kinds as kinds
-use Rattle.answer_kinds.specs.Kinds.{is_of, kind_of, IsOfKind}
-use Rattle.answer_kinds.specs.Rows.{AnswersAreOfTheirKinds}
-use Rattle.class_world.specs.Reading.{Reading, plain, answer_of, bindings, spelled}
-use Rattle.vm_eval.specs.Asks.{ending_in, unnoted}
-use Rattle.vm_eval.specs.Say.{say}
-use Rattle.vm_eval.specs.State.{State}
-use Rattle.vm_calls.specs.Answers.{IsMethod, IsObject}
-use Rattle.vm_calls.specs.Loaded.{InvokedIsCalled, LoadedIsRead}
-use Rattle.vm_calls.specs.Told.{EndsAs}
+use Rattle.vm_calls.specs.AttributeLaws.Methods as methods
+use Rattle.vm_calls.specs.AnswerKinds.Kinds as kinds
+use Rattle.class_world.specs.Reading.{spelled}
 use Rattle.vm_calls.proofs.Kinded.{all-go, over-noted, same-end, same-world}
 
 -- tasks of attributes and of descriptors go by their rows

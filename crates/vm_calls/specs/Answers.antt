@@ -1,14 +1,7 @@
 -- What a call tells of a task's answer: of which kind that must be, and as which value it is told.
-use Rattle.std.specs.Prelude.{◌≡◌, ℕ, ℤ, pos, negsuc, Bool, not, Option, Some, None, option_map, IsTrue, ◌⊎◌}
-use Rattle.std.specs.Global.{Vec}
-use Rattle.py_node.specs.declared.refs.PyObjectRef.{PyObjectRef}
-use Rattle.py_node.specs.declared.task.Answer.{Answer}
-use Rattle.py_node.specs.declared.task.Answer.TheVariants.{Value, Number, Truth, Maybe, Method, Objects}
-use Rattle.py_node.specs.declared.task.PyMethod.{PyMethod}
-use Rattle.py_node.specs.declared.task.Task.{Task}
-use Rattle.plain_machine.specs.Row.{truth}
-use Rattle.class_world.specs.Reading.{Reading, task_of, answer_of}
-use Rattle.answer_kinds.specs.Kinds.{Kind, is_of, IsOfKind}
+use Rattle.vm_calls.specs.Below.{ℕ, ℤ, pos, negsuc, Bool, not, Option, Some, None, option_map, IsTrue, Vec, PyObjectRef, Answer, Value, Number, Truth, Maybe, Method, Objects, PyMethod, Task, truth, Reading, task_of, answer_of}
+use Rattle.std.specs.Prelude.{◌≡◌, ◌⊎◌}
+use Rattle.vm_calls.specs.AnswerKinds.Kinds.{Kind, is_of, IsOfKind}
 
 -- an answer of a kind
 abbrev pub Of : Kind → Answer → Type 0

@@ -1,6 +1,11 @@
+pub mod Below
 pub mod Answers
 pub mod Loaded
 pub mod Told
 pub mod Tests
 pub mod Views
 pub mod Values
+pub mod SlotTables
+pub mod OfProtocols
+pub mod AttributeLaws
+pub mod AnswerKinds

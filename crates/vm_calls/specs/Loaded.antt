@@ -1,20 +1,8 @@
 -- Loading a method and calling what was loaded, beside reading the attribute and calling what was read.
-use Rattle.std.specs.Prelude.{◌≡◌, ℕ, suc, Some, Ok}
-use Rattle.std.specs.Global.{Vec}
-use Rattle.py_node.specs.declared.task.AttributeTask.TheVariants.{GetAttr, LoadMethod, Invoke}
-use Rattle.py_node.specs.declared.task.CallTask.TheVariants.{Call}
-use Rattle.py_node.specs.declared.refs.PyObjectRef.{PyObjectRef}
-use Rattle.py_node.specs.declared.refs.PyStrInterned.{PyStrInterned}
-use Rattle.py_node.specs.declared.task.PyMethod.TheVariants.{Function}
-use Rattle.py_node.specs.declared.task.PyResult.{PyResult}
-use Rattle.py_node.specs.declared.task.PyResult.TheVariants.{Done}
+use Rattle.vm_calls.specs.Below.{ℕ, suc, Some, Ok, Vec, GetAttr, LoadMethod, Invoke, Call, PyObjectRef, PyStrInterned, Function, PyResult, Done, the_method, AMethod, class_at, datum_at, with_node, next_node, Reading, Reads, plain, State}
+use Rattle.std.specs.Prelude.{◌≡◌}
 use Rattle.py_node.specs.declared.task.Task.TheVariants as task
-use Rattle.plain_machine.specs.Known.{the_method}
-use Rattle.plain_machine.specs.Plain.{AMethod}
-use Rattle.plain_machine.specs.World.{class_at, datum_at, with_node, next_node}
-use Rattle.class_world.specs.Reading.{Reading, Reads, plain}
-use Rattle.attribute_laws.specs.Methods.{IsKnown, method_class, method_made}
-use Rattle.vm_eval.specs.State.{State}
+use Rattle.vm_calls.specs.AttributeLaws.Methods.{IsKnown, method_class, method_made}
 use Rattle.vm_calls.specs.Told.{TellsMethod, TellsObject}
 
 -- where a function was loaded with its target, nothing has changed and the target is the object itself; and reading the attribute in the same world, with two units at least, tells a new method of just these two and changes nothing else

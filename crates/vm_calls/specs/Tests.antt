@@ -1,9 +1,6 @@
 -- What calls test before they ask a task.
-use Rattle.std.specs.Prelude.{Bool, ◌||◌, is_some}
-use Rattle.py_node.specs.declared.entry.SlotId.TheVariants.{Index, SeqLength, MapLength}
-use Rattle.py_node.specs.declared.refs.PyObjectRef.{PyObjectRef}
-use Rattle.plain_machine.specs.Plain.{PlainWorld}
-use Rattle.plain_machine.specs.World.{datum_at, number_of, slot_at}
+use Rattle.vm_calls.specs.Below.{Bool, is_some, Index, SeqLength, MapLength, PyObjectRef, PlainWorld, datum_at, number_of, slot_at}
+use Rattle.std.specs.Prelude.{◌||◌}
 
 -- an object holds a number, or its class itself has a slot by which its objects are indices
 abbrev pub has_index : PyObjectRef → PlainWorld → Bool

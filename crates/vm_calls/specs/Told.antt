@@ -1,21 +1,7 @@
 -- What a host is told that asks the machine for a task.
-use Rattle.std.specs.Prelude.{◌≡◌, ℕ, ℤ, Bool, true, false, cond, List, [], Option, None, Result, Ok, Err, IfOk, OnOk, OnErr, IsTrue}
-use Rattle.py_node.specs.declared.refs.PyObjectRef.{PyObjectRef}
-use Rattle.py_node.specs.declared.task.Answer.{Answer}
-use Rattle.py_node.specs.declared.task.PyMethod.{PyMethod}
-use Rattle.py_node.specs.declared.task.PyResult.{PyResult}
-use Rattle.py_node.specs.declared.task.PyResult.TheVariants.{Done, Raised, Budget}
-use Rattle.py_node.specs.declared.task.Task.{Task}
-use Rattle.plain_machine.specs.Plain.{PlainWorld}
-use Rattle.plain_machine.specs.Sound.{IsSound}
-use Rattle.class_world.specs.Claims.{of_answer, of_method}
-use Rattle.class_world.specs.Held.{Held}
-use Rattle.class_world.specs.Reading.{Reading, Reads, plain, IsReadable}
-use Rattle.class_world.specs.Sound.{AllHold, Claim, Grows, of_node_ref, of_option}
-use Rattle.vm_eval.specs.declared.machine.RunFault.{RunFault}
+use Rattle.vm_calls.specs.Below.{ℕ, ℤ, Bool, true, false, cond, List, [], Option, None, Result, Ok, Err, IfOk, OnOk, OnErr, IsTrue, PyObjectRef, Answer, PyMethod, PyResult, Done, Raised, Budget, Task, PlainWorld, IsSound, of_answer, of_method, Held, Reading, Reads, plain, IsReadable, AllHold, Claim, Grows, of_node_ref, of_option, RunFault, Asked, of_done, State}
+use Rattle.std.specs.Prelude.{◌≡◌}
 use Rattle.vm_eval.specs.declared.machine.RunFault.TheVariants as run_fault
-use Rattle.vm_eval.specs.Asks.{Asked, of_done}
-use Rattle.vm_eval.specs.State.{State}
 use Rattle.vm_calls.specs.Answers.{IsAnswer, IsObject, IsMaybe, IsMethod, IsDone, IsTruth, IsOpposite, IsOrder, IsNumber, IsLength, IsHint, IsHintOr, IsSome}
 
 -- a call ends as the task did: what is told is such of the answer

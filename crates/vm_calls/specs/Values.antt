@@ -1,7 +1,5 @@
 -- What a host takes from an object.
-use Rattle.std.specs.Prelude.{Option, Some, None}
-use Rattle.py_node.specs.Tree.{Text}
-use Rattle.plain_machine.specs.Plain.{Datum, AText}
+use Rattle.vm_calls.specs.Below.{Option, Some, None, Text, Datum, AText}
 
 -- the text that an object holds, where it holds one
 abbrev pub text_of : Option Datum → Option Text

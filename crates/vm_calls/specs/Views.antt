@@ -1,29 +1,7 @@
 -- What a host is told that asks the machine by a view of an object.
-use Rattle.std.specs.Prelude.{◌≡◌, ℕ, ℤ, true, false, cond, is_some, List, [], ◌∷◌, length, nat_le, Option, Some, None, Result}
-use Rattle.std.specs.Global.{Vec}
-use Rattle.py_node.specs.declared.entry.SlotEntry.{SlotEntry}
-use Rattle.py_node.specs.declared.raised.Cause.{Cause}
-use Rattle.py_node.specs.declared.raised.Cause.TheVariants.{NoItemAssignment, NoItemDeletion, TooLong}
-use Rattle.py_node.specs.declared.protocol.ProtocolTask.TheVariants.{SetItem, DelItem, Collect}
-use Rattle.py_node.specs.declared.refs.PyObjectRef.{PyObjectRef}
-use Rattle.py_node.specs.declared.task.Answer.{Answer}
-use Rattle.py_node.specs.declared.task.PyResult.{PyResult}
-use Rattle.py_node.specs.declared.task.PyResult.TheVariants.{Done, Raised, Budget}
-use Rattle.py_node.specs.declared.task.Task.{Task}
+use Rattle.vm_calls.specs.Below.{ℕ, ℤ, true, false, cond, is_some, List, [], length, nat_le, Option, Some, None, Result, Vec, SlotEntry, Cause, NoItemAssignment, NoItemDeletion, TooLong, SetItem, DelItem, Collect, PyObjectRef, Answer, PyResult, Done, Raised, Budget, Task, raised, Out, answer, the_int, the_list, the_tuple, Datum, ANumber, AList, ATuple, PlainWorld, PlainTask, ToProtocol, DoCollect, most_items, with_node, next_node, Held, Reading, Reads, plain, Claim, AreNodes, of_node_ref, RunFault, ending_in, unnoted, of_done, say, State}
+use Rattle.std.specs.Prelude.{◌≡◌, ◌∷◌}
 use Rattle.py_node.specs.declared.task.Task.TheVariants as task
-use Rattle.py_node.specs.Faults.{raised}
-use Rattle.plain_machine.specs.Answer.{Out, answer}
-use Rattle.plain_machine.specs.Known.{the_int, the_list, the_tuple}
-use Rattle.plain_machine.specs.Plain.{Datum, ANumber, AList, ATuple, PlainWorld, PlainTask, ToProtocol, DoCollect}
-use Rattle.plain_machine.specs.Row.{most_items}
-use Rattle.plain_machine.specs.World.{with_node, next_node}
-use Rattle.class_world.specs.Held.{Held}
-use Rattle.class_world.specs.Reading.{Reading, Reads, plain}
-use Rattle.class_world.specs.Sound.{Claim, AreNodes, of_node_ref}
-use Rattle.vm_eval.specs.declared.machine.RunFault.{RunFault}
-use Rattle.vm_eval.specs.Asks.{ending_in, unnoted, of_done}
-use Rattle.vm_eval.specs.Say.{say}
-use Rattle.vm_eval.specs.State.{State}
 use Rattle.vm_calls.specs.declared.made.Made.{Made}
 use Rattle.vm_calls.specs.declared.made.Made.TheVariants as made
 use Rattle.vm_calls.specs.Answers.{AreObjects}

@@ -2,17 +2,14 @@
 //!
 //! A task's answers are of one kind (`answer_kinds`), so that each type is read of its own kind of answers alone.
 
-ghost use Rattle.std.specs.Prelude.{◌≡◌, List, cond};
-ghost use Rattle.py_node.specs.declared.task.Answer.{Answer as GivenValue};
-ghost use Rattle.class_world.specs.Claims.{of_answer, of_method, of_task};
-ghost use Rattle.class_world.specs.Held.{Held};
-ghost use Rattle.class_world.specs.Sound.{AllHold, Claim, of_node_ref, of_option};
-ghost use Rattle.answer_kinds.specs.Kinds as kinds;
+ghost use Rattle.vm_calls.specs.Below.{List, cond, Answer as GivenValue, of_answer, of_method, of_task, Held, AllHold, Claim, of_node_ref, of_option};
+ghost use Rattle.std.specs.Prelude.{◌≡◌};
+ghost use Rattle.vm_calls.specs.AnswerKinds.Kinds as kinds;
 ghost use Rattle.vm_calls.specs.Answers.{GivesJust, IsAnswer, IsDone, IsHint, IsLength, IsMaybe, IsMethod, IsNumber, IsObject, IsOrder, IsTruth, AreObjects, Of, length_of};
 ghost use Rattle.vm_calls.specs.Told.{Told, ToldSome, of_nothing};
 ghost use Rattle.vm_calls.specs.Views.{lacks, of_items};
 
-use answer_kinds::answers_are_of_their_kinds;
+use crate::answer_kinds::answers_are_of_their_kinds;
 use class_world::Fixed;
 use py_node::{Answer, Cause, PyMethod, PyObjectRef, PyResult, Raised, Task};
 use vm_eval::{RunFault, VirtualMachine};

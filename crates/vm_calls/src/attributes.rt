@@ -1,8 +1,7 @@
 //! Attributes of objects, and methods.
 
-ghost use Rattle.std.specs.Prelude.{[], ◌∷◌, ◌++◌};
-ghost use Rattle.class_world.specs.Claims.{of_args, of_method, of_setter};
-ghost use Rattle.class_world.specs.Sound.{AllHold, IsName, IsNode, of_node_ref, of_option};
+ghost use Rattle.vm_calls.specs.Below.{[], of_args, of_method, of_setter, AllHold, IsName, IsNode, of_node_ref, of_option};
+ghost use Rattle.std.specs.Prelude.{◌∷◌, ◌++◌};
 ghost use Rattle.vm_calls.specs.Told.{TellsDone, TellsMaybe, TellsMethod, TellsObject, TellsTruth};
 
 use crate::asked::ask;

@@ -1,12 +1,11 @@
 //! Calls of objects, by their views.
 
 ghost use Rattle.std.specs.Prelude.{◌∷◌};
-ghost use Rattle.class_world.specs.Claims.{of_args};
-ghost use Rattle.class_world.specs.Sound.{AllHold, IsNode};
+ghost use Rattle.vm_calls.specs.Below.{of_args, AllHold, IsNode};
 ghost use Rattle.vm_calls.specs.Told.{TellsObject};
 
 use crate::calls;
-use protocols::PyCallable;
+use crate::protocols::PyCallable;
 use py_node::task::{Args, Keywords};
 use py_node::{CallTask, PyObjectRef, PyResult, Task};
 use vm_eval::{RunFault, VirtualMachine};

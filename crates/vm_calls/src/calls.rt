@@ -1,8 +1,7 @@
 //! Calls of objects.
 
 ghost use Rattle.std.specs.Prelude.{◌∷◌};
-ghost use Rattle.class_world.specs.Claims.{of_args};
-ghost use Rattle.class_world.specs.Sound.{AllHold, IsNode};
+ghost use Rattle.vm_calls.specs.Below.{of_args, AllHold, IsNode};
 ghost use Rattle.vm_calls.specs.Told.{TellsObject};
 
 use crate::asked::ask;

@@ -1,7 +1,7 @@
 //! Comparisons.
 
-ghost use Rattle.std.specs.Prelude.{[], ◌∷◌};
-ghost use Rattle.class_world.specs.Sound.{AllHold, IsNode};
+ghost use Rattle.vm_calls.specs.Below.{[], AllHold, IsNode};
+ghost use Rattle.std.specs.Prelude.{◌∷◌};
 ghost use Rattle.vm_calls.specs.Told.{TellsObject, TellsOrder, TellsTruth};
 
 use crate::asked::ask;

@@ -1,7 +1,7 @@
 //! Operators in place.
 
-ghost use Rattle.std.specs.Prelude.{[], ◌∷◌};
-ghost use Rattle.class_world.specs.Sound.{AllHold, IsNode};
+ghost use Rattle.vm_calls.specs.Below.{[], AllHold, IsNode};
+ghost use Rattle.std.specs.Prelude.{◌∷◌};
 ghost use Rattle.vm_calls.specs.Told.{TellsObject};
 
 use crate::asked::ask;

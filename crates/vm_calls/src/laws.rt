@@ -2,8 +2,8 @@
 
 ghost use Rattle.vm_calls.specs.Loaded.{InvokedIsCalled, LoadedIsRead};
 
-use answer_kinds::answers_are_of_their_kinds;
-use attribute_laws::methods::{every_world_is_usual, laws_of_methods};
+use crate::answer_kinds::answers_are_of_their_kinds;
+use crate::attribute_laws::methods::{every_world_is_usual, laws_of_methods};
 use vm_eval::VirtualMachine;
 
 /// Loading a method and calling what was loaded does what reading the attribute and calling that does.

@@ -1,7 +1,7 @@
 //! Lengths, as the table of a view allows.
 
-ghost use Rattle.std.specs.Prelude.{[], ◌∷◌};
-ghost use Rattle.class_world.specs.Sound.{AllHold, IsNode};
+ghost use Rattle.vm_calls.specs.Below.{[], AllHold, IsNode};
+ghost use Rattle.std.specs.Prelude.{◌∷◌};
 ghost use Rattle.vm_calls.specs.Told.{TellsLength, TellsLengthSome};
 ghost use Rattle.vm_calls.specs.Views.{ToldIf, lacks};
 

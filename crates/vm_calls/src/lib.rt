@@ -2,7 +2,9 @@
 //! value. Those of `sequence`, `mapping`, `number` and `callable` ask it of an object by a view.
 #![tactic(auto)]
 
+pub mod answer_kinds;
 mod asked;
+pub mod attribute_laws;
 pub mod attributes;
 pub mod callable;
 pub mod calls;
@@ -16,7 +18,9 @@ pub mod number;
 pub mod numbers;
 pub mod objects;
 pub mod operators;
+pub mod protocols;
 pub mod sequence;
+pub mod slot_tables;
 pub mod values;
 
 pub use attributes::{

@@ -1,10 +1,7 @@
 //! New objects that calls need: the number of a place, and what is made of the items of an object.
 
-ghost use Rattle.std.specs.Prelude.{◌≡◌, [], ◌∷◌, None};
-ghost use Rattle.plain_machine.specs.Known.{the_int};
-ghost use Rattle.plain_machine.specs.Plain.{ANumber};
-ghost use Rattle.class_world.specs.Reading.{datum};
-ghost use Rattle.class_world.specs.Sound.{AllHold, AreNodes, Holds, IsClass, IsNode, IsOf, class_in, home_of, of_payload};
+ghost use Rattle.vm_calls.specs.Below.{[], None, the_int, ANumber, datum, AllHold, AreNodes, Holds, IsClass, IsNode, IsOf, class_in, home_of, of_payload};
+ghost use Rattle.std.specs.Prelude.{◌≡◌, ◌∷◌};
 ghost use Rattle.vm_calls.specs.Views.{MakesNode, TellsItems, TellsMadeOf, class_of, datum_of};
 
 use crate::asked::ask;

@@ -1,13 +1,13 @@
 //! What is asked of an object as a mapping.
 
-ghost use Rattle.std.specs.Prelude.{[], ◌∷◌};
-ghost use Rattle.class_world.specs.Sound.{AllHold, IsNode, of_node_ref, of_option};
+ghost use Rattle.vm_calls.specs.Below.{[], AllHold, IsNode, of_node_ref, of_option};
+ghost use Rattle.std.specs.Prelude.{◌∷◌};
 ghost use Rattle.vm_calls.specs.Told.{TellsDone, TellsLength, TellsLengthSome, TellsObject};
 ghost use Rattle.vm_calls.specs.Views.{ToldIf, item_task, lacks, missing_item};
 
 use crate::asked::{ask, lacking};
 use crate::lengths::{length_by, length_opt_by};
-use protocols::PyMapping;
+use crate::protocols::PyMapping;
 use py_node::{Cause, ProtocolTask, PyObjectRef, PyResult, Task};
 use vm_eval::{RunFault, VirtualMachine};
 

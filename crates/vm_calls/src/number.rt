@@ -1,12 +1,11 @@
 //! What is asked of an object as a number.
 
-ghost use Rattle.std.specs.Prelude.{is_some, [], ◌∷◌};
-ghost use Rattle.plain_machine.specs.World.{slot_at};
-ghost use Rattle.class_world.specs.Sound.{AllHold, IsNode};
+ghost use Rattle.vm_calls.specs.Below.{is_some, [], slot_at, AllHold, IsNode};
+ghost use Rattle.std.specs.Prelude.{◌∷◌};
 ghost use Rattle.vm_calls.specs.Told.{TellsObjectWhere};
 
 use crate::asked::{ask_some, none_told};
-use protocols::PyNumber;
+use crate::protocols::PyNumber;
 use py_node::{ProtocolTask, PyObjectRef, PyResult, SlotId, Task};
 use vm_eval::{RunFault, VirtualMachine};
 

@@ -1,8 +1,7 @@
 //! What objects stand for as truth values, as whole numbers and as lengths.
 
-ghost use Rattle.std.specs.Prelude.{◌≡◌, [], ◌∷◌};
-ghost use Rattle.class_world.specs.Reading.{Reading, Reads, plain};
-ghost use Rattle.class_world.specs.Sound.{AllHold, Holds, IsNode};
+ghost use Rattle.vm_calls.specs.Below.{[], Reading, Reads, plain, AllHold, Holds, IsNode};
+ghost use Rattle.std.specs.Prelude.{◌≡◌, ◌∷◌};
 ghost use Rattle.vm_calls.specs.Tests.{has_index, has_length};
 ghost use Rattle.vm_calls.specs.Told.{TellsLength, TellsLengthOpt, TellsLengthOr, TellsLengthWhere, TellsObject, TellsObjectWhere, TellsOpposite, TellsTruth};
 

@@ -1,7 +1,7 @@
 //! Items, iterations, and what all objects can do.
 
-ghost use Rattle.std.specs.Prelude.{[], ◌∷◌};
-ghost use Rattle.class_world.specs.Sound.{AllHold, IsNode};
+ghost use Rattle.vm_calls.specs.Below.{[], AllHold, IsNode};
+ghost use Rattle.std.specs.Prelude.{◌∷◌};
 ghost use Rattle.vm_calls.specs.Told.{TellsAnswer, TellsDone, TellsNumber, TellsObject, TellsTruth};
 
 use crate::asked::ask;

@@ -1,7 +1,7 @@
 //! Operators of numbers, and of sequences that are joined and repeated.
 
-ghost use Rattle.std.specs.Prelude.{[], ◌∷◌};
-ghost use Rattle.class_world.specs.Sound.{AllHold, IsNode};
+ghost use Rattle.vm_calls.specs.Below.{[], AllHold, IsNode};
+ghost use Rattle.std.specs.Prelude.{◌∷◌};
 ghost use Rattle.vm_calls.specs.Told.{TellsObject};
 
 use crate::asked::ask;

@@ -1,9 +1,7 @@
 //! What is asked of an object as a sequence.
 
-ghost use Rattle.std.specs.Prelude.{[], ◌∷◌};
-ghost use Rattle.plain_machine.specs.Known.{the_list, the_tuple};
-ghost use Rattle.plain_machine.specs.Plain.{AList, ATuple, DoDelItem, DoGetItem, DoSetItem, ToProtocol};
-ghost use Rattle.class_world.specs.Sound.{AllHold, IsNode, of_node_ref};
+ghost use Rattle.vm_calls.specs.Below.{[], the_list, the_tuple, AList, ATuple, DoDelItem, DoGetItem, DoSetItem, ToProtocol, AllHold, IsNode, of_node_ref};
+ghost use Rattle.std.specs.Prelude.{◌∷◌};
 ghost use Rattle.vm_calls.specs.Answers.{IsDone, IsObject};
 ghost use Rattle.vm_calls.specs.Told.{TellsDone, TellsLength, TellsLengthSome, TellsObject, TellsTruth, of_nothing};
 ghost use Rattle.vm_calls.specs.Views.{TellsItems, TellsMadeOf, ToldIf, ToldWith, lacks};
@@ -11,7 +9,7 @@ ghost use Rattle.vm_calls.specs.Views.{TellsItems, TellsMadeOf, ToldIf, ToldWith
 use crate::asked::{ask, lacking};
 use crate::lengths::{length_by, length_opt_by};
 use crate::made::{Made, items, made_of_items, new_number};
-use protocols::PySequence;
+use crate::protocols::PySequence;
 use py_node::{Cause, OperatorTask, ProtocolTask, PyObjectRef, PyResult, Task};
 use vm_eval::{RunFault, VirtualMachine};
 

@@ -1,12 +1,7 @@
 //! Numbers and texts of a host as objects of a machine, and back.
 
-ghost use Rattle.std.specs.Prelude.{◌≡◌, [], ◌∷◌, None, true, false, length, nat_le, option_map, string_bytes};
-ghost use Rattle.plain_machine.specs.Known.{the_int, the_str};
-ghost use Rattle.plain_machine.specs.Plain.{ANumber, AText};
-ghost use Rattle.plain_machine.specs.Row.{most_items};
-ghost use Rattle.plain_machine.specs.World.{datum_at, number_of};
-ghost use Rattle.class_world.specs.Reading.{Reading, plain};
-ghost use Rattle.class_world.specs.Sound.{Holds, IsNode};
+ghost use Rattle.vm_calls.specs.Below.{[], None, true, false, length, nat_le, option_map, string_bytes, the_int, the_str, ANumber, AText, most_items, datum_at, number_of, Reading, plain, Holds, IsNode};
+ghost use Rattle.std.specs.Prelude.{◌≡◌, ◌∷◌};
 ghost use Rattle.vm_calls.specs.Told.{Keeps};
 ghost use Rattle.vm_calls.specs.Values.{text_of};
 ghost use Rattle.vm_calls.specs.Views.{MakesNode, TellsNew, lacks};

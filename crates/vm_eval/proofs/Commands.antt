@@ -1,18 +1,9 @@
 -- One command after another.
-use Rattle.std.proofs.Common.{◌≡◌, ℕ, List, sym, ap, ◌∙◌}
+use Rattle.vm_eval.proofs.Below.{ℕ, List, sym, ap, ◌∙◌, Tree, PlainReplyAnswer, Started, PlainWorld, DoEval, ToEval, Run, Out, answer, answering, replied, without_calls, World, Reading, Reads, plain, say, Answers, ending_of, Replied, before}
+use Rattle.std.proofs.Common.{◌≡◌}
 use Rattle.py_node.specs.declared.task.EvalTask.TheVariants as eval
 use Rattle.py_node.specs.declared.task.Task.TheVariants as task
-use Rattle.py_node.specs.Tree.{Tree}
-use Rattle.py_node.specs.Replies.{PlainReplyAnswer, Started}
-use Rattle.plain_machine.specs.Plain.{PlainWorld, DoEval, ToEval}
-use Rattle.plain_machine.specs.Answer.{Run, Out, answer, answering, replied}
-use Rattle.plain_machine.specs.World.{without_calls}
-use Rattle.class_world.specs.declared.world.World.{World}
-use Rattle.class_world.specs.Reading.{Reading, Reads, plain}
 use Rattle.vm_eval.specs.declared.stack.End.{End}
-use Rattle.vm_eval.specs.Say.{say}
-use Rattle.vm_eval.specs.Stack.{Answers, ending_of}
-use Rattle.vm_eval.specs.Runs.{Replied, before}
 
 -- a command's expression is stored, driven to its end, shown, and its starts are told
 pub command-replied : (command : Tree) (number units : ℕ) (old mid last new : World) (end : End) (told : PlainReplyAnswer) (calls : List Started)

@@ -1,52 +1,10 @@
 -- What a group's row says is what the row says among all.
-use Rattle.std.proofs.Common.{◌≡◌, [], ◌∷◌, ◌++◌, sym, ap, subst, ◌∙◌, refl, Result}
-use Rattle.py_node.specs.declared.raised.Raised.{Raised as Fault}
-use Rattle.py_node.specs.declared.refs.PyObjectRef.{PyObjectRef}
-use Rattle.py_node.specs.declared.task.Answer.{Answer}
-use Rattle.py_node.specs.declared.task.Step.{Step}
-use Rattle.py_node.specs.declared.task.Step.TheVariants.{Ask, End}
-use Rattle.plain_machine.specs.Plain.{PlainWorld, PlainTask, ToEval, ToAttribute, ToDescriptor, ToCall, ToClass, ToOperator, ToCompare, ToProtocol, ToObject, ProtocolJob, Answered, Told, Said, Asks, Ends, Saying}
-use Rattle.plain_machine.specs.Rows.{Pending, Alike, fresh, given}
-use Rattle.class_world.specs.declared.world.World.{World}
-use Rattle.class_world.specs.Reading.{Reading, plain, ended_of}
-use Rattle.class_world.specs.Rows.{Steps, Goes}
-use Rattle.eval_forms.specs.Say.{eval_say}
-use Rattle.eval_forms.specs.Rows.{eval_stands}
-use Rattle.proto_attr.specs.Say.{attribute_say}
-use Rattle.proto_attr.specs.Rows.{attribute_stands}
-use Rattle.proto_descr.specs.Say.{descriptor_say}
-use Rattle.proto_descr.specs.Rows.{descriptor_stands}
-use Rattle.proto_call.specs.Say.{call_job_say}
-use Rattle.proto_call.specs.Rows.{call_stands}
-use Rattle.class_make.specs.Say.{class_job_say}
-use Rattle.class_make.specs.Rows.{class_stands}
-use Rattle.proto_ops.specs.Say.{operator_say}
-use Rattle.proto_ops.specs.Rows.{operator_stands}
-use Rattle.proto_compare.specs.Say.{compare_job_say}
-use Rattle.proto_compare.specs.Rows.{compare_stands}
-use Rattle.proto_number.specs.Say.{number_job_say}
-use Rattle.proto_number.specs.declared.NumberKept.{NumberKept}
-use Rattle.proto_number.specs.declared.NumberKept.TheVariants.{Pass, AfterBool, AfterLength, AfterIndex, AfterInt, AfterTruncate, AfterIndexOf, AfterLen, Measured, Expected, Called}
-use Rattle.proto_number.specs.Rows.{number_stands}
-use Rattle.proto_iter.specs.Say.{iter_job_say}
-use Rattle.proto_iter.specs.declared.IterKept.{IterKept}
-use Rattle.proto_iter.specs.declared.IterKept.TheVariants as iter
-use Rattle.proto_iter.specs.declared.seek.Search.{Search}
-use Rattle.proto_iter.specs.declared.seek.Search.TheVariants as search
-use Rattle.proto_iter.specs.Rows.{iter_stands, search_job}
-use Rattle.proto_items.specs.Say.{items_job_say}
-use Rattle.proto_items.specs.declared.ItemsKept.{ItemsKept}
-use Rattle.proto_items.specs.declared.ItemsKept.TheVariants as items
-use Rattle.proto_items.specs.Rows.{items_stands}
-use Rattle.proto_object.specs.Say.{object_job_say}
-use Rattle.proto_object.specs.Rows.{object_stands}
-use Rattle.natives.specs.Say.{native_job_say}
-use Rattle.natives.specs.Rows.{natives_stands}
-use Rattle.vm_eval.specs.declared.stack.Kept.{Kept}
-use Rattle.vm_eval.specs.declared.stack.Kept.TheVariants.{ForEval, ForAttribute, ForDescriptor, ForCall, ForClass, ForOperator, ForCompare, ForNumber, ForIteration, ForItems, ForObject, ForNative}
-use Rattle.vm_eval.specs.declared.protocols.Branch.{Branch}
+use Rattle.vm_eval.proofs.Below.{[], sym, ap, subst, ◌∙◌, refl, Result, Raised as Fault, PyObjectRef, Answer, Step, Ask, End, PlainWorld, PlainTask, ToEval, ToAttribute, ToDescriptor, ToCall, ToClass, ToOperator, ToCompare, ToProtocol, ToObject, ProtocolJob, Answered, Told, Said, Asks, Ends, Saying, Pending, Alike, fresh, given, World, Reading, plain, ended_of, Steps, Goes, eval_say, eval_stands, attribute_say, attribute_stands, descriptor_say, descriptor_stands, call_job_say, call_stands, class_job_say, class_stands, operator_say, operator_stands, compare_job_say, compare_stands, number_job_say, NumberKept, Pass, AfterBool, AfterLength, AfterIndex, AfterInt, AfterTruncate, AfterIndexOf, AfterLen, Measured, Expected, Called, number_stands, iter_job_say, IterKept, Search, iter_stands, search_job, items_job_say, ItemsKept, items_stands, object_job_say, object_stands, native_job_say, natives_stands, Kept, ForEval, ForAttribute, ForDescriptor, ForCall, ForClass, ForOperator, ForCompare, ForNumber, ForIteration, ForItems, ForObject, ForNative, Branch, say, stands, among, step_among, by_branch, branch_of, to_native, Resumes}
+use Rattle.std.proofs.Common.{◌≡◌, ◌∷◌, ◌++◌}
+use Rattle.proto_object.specs.declared.proto_iter.IterKept.TheVariants as iter
+use Rattle.proto_object.specs.declared.proto_iter.seek.Search.TheVariants as search
+use Rattle.proto_object.specs.declared.proto_items.ItemsKept.TheVariants as items
 use Rattle.vm_eval.specs.declared.protocols.Branch.TheVariants as branch
-use Rattle.vm_eval.specs.Say.{say, stands, among, step_among, by_branch, branch_of, to_native, Resumes}
 
 -- a group of rows, among all: it is for its own jobs
 pub record Among {J K : Type 0} (group : Saying J) (held : Reading → K → Pending J) (to : J → PlainTask) (for : K → Kept) (own : J → Type 0) : Type 0 where

@@ -1,9 +1,6 @@
 -- That no body runs and none is noted: in a world, and as the world is read.
-use Rattle.std.proofs.Common.{◌≡◌, List, [], ◌∷◌, length, map, refl, ap, sym, ◌∙◌, arith}
-use Rattle.class_world.specs.Held.{Held}
-use Rattle.class_world.specs.Reading.{Reading, plain, scope_of}
-use Rattle.class_world.specs.Sound.{Lasts, Grows}
-use Rattle.vm_eval.specs.Stack.{AsDeep}
+use Rattle.vm_eval.proofs.Below.{List, [], length, map, refl, ap, sym, ◌∙◌, arith, Held, Reading, plain, scope_of, Lasts, Grows, AsDeep}
+use Rattle.std.proofs.Common.{◌≡◌, ◌∷◌}
 
 none-short : {A : Type 0} (xs : List A) → length xs ≡ 0 → xs ≡ []
 none-short [] h = refl

@@ -1,14 +1,7 @@
 -- How the machine answers a task that a host asks, in the terms of the plain machine.
-use Rattle.std.specs.Prelude.{◌≡◌, ℕ, List, [], Ok, Err}
-use Rattle.py_node.specs.declared.task.Answer.{Answer}
-use Rattle.py_node.specs.declared.task.PyResult.{PyResult}
-use Rattle.py_node.specs.declared.task.PyResult.TheVariants.{Done, Raised, Budget}
-use Rattle.py_node.specs.declared.task.Task.{Task}
-use Rattle.plain_machine.specs.Answer.{Ending, Over, NoUnits, Outcome, Out, answer}
-use Rattle.plain_machine.specs.World.{without_calls}
-use Rattle.class_world.specs.declared.world.World.{World}
-use Rattle.class_world.specs.Reading.{Reading, Reads, plain, task_of, answer_of}
-use Rattle.class_world.specs.Sound.{Claim}
+use Rattle.vm_eval.specs.Below.{ℕ, List, [], Ok, Err, Answer, PyResult, Done, Budget, Task, Ending, Over, NoUnits, Outcome, Out, answer, without_calls, World, Reading, Reads, plain, task_of, answer_of, Claim}
+use Rattle.std.specs.Prelude.{◌≡◌}
+use Rattle.py_node.specs.declared.task.PyResult.TheVariants.{Raised}
 use Rattle.vm_eval.specs.Say.{say}
 
 -- how the task ended

@@ -1,13 +1,6 @@
 -- What the machine's replies to commands are, in the terms of the plain run.
-use Rattle.std.specs.Prelude.{◌≡◌, ℕ, List, ◌∷◌, map}
-use Rattle.py_node.specs.declared.expr.Command.{Command}
-use Rattle.py_node.specs.declared.reply.Reply.{Reply}
-use Rattle.py_node.specs.Tree.{Tree, tree_of}
-use Rattle.py_node.specs.Replies.{PlainReply, reply_of}
-use Rattle.plain_machine.specs.Plain.{PlainWorld, DoEval, ToEval}
-use Rattle.plain_machine.specs.Answer.{Run, answer, replied, plain_run}
-use Rattle.class_world.specs.declared.world.World.{World}
-use Rattle.class_world.specs.Reading.{Reading, Reads, plain}
+use Rattle.vm_eval.specs.Below.{ℕ, List, map, Command, Reply, Tree, tree_of, PlainReply, reply_of, PlainWorld, DoEval, ToEval, Run, answer, replied, plain_run, World, Reading, Reads, plain}
+use Rattle.std.specs.Prelude.{◌≡◌, ◌∷◌}
 use Rattle.vm_eval.specs.Say.{say}
 
 -- a run with a reply before it

@@ -1,41 +1,7 @@
 -- The rows of all groups.
-use Rattle.std.specs.Prelude.{ℕ, List, [], Result}
-use Rattle.py_node.specs.declared.raised.Raised.{Raised as Fault}
-use Rattle.py_node.specs.declared.task.Answer.{Answer}
-use Rattle.py_node.specs.declared.task.Task.{Task}
-use Rattle.py_node.specs.declared.task.Step.{Step}
-use Rattle.py_node.specs.declared.task.Step.TheVariants.{Ask, End}
-use Rattle.plain_machine.specs.Plain.{PlainWorld, PlainTask, ProtocolJob, DoIsTrue, DoIndex, DoWhole, DoLength, DoHint, DoGetIter, DoNext, DoCollect, DoContains, DoCount, DoFind, ToEval, ToAttribute, ToDescriptor, ToCall, ToClass, ToOperator, ToCompare, ToProtocol, ToObject, ToNative, Saying}
-use Rattle.plain_machine.specs.Row.{Row}
-use Rattle.plain_machine.specs.Rows.{Pending, fresh, given}
-use Rattle.class_world.specs.declared.world.World.{World}
-use Rattle.class_world.specs.Reading.{Reading, task_of, ended_of}
-use Rattle.class_world.specs.Rows.{Goes}
-use Rattle.class_world.specs.Sound.{Claim}
-use Rattle.eval_forms.specs.Say.{eval_say}
-use Rattle.eval_forms.specs.Rows.{eval_stands, of_eval_kept}
-use Rattle.proto_attr.specs.Say.{attribute_say}
-use Rattle.proto_attr.specs.Rows.{attribute_stands, of_attribute_kept}
-use Rattle.proto_descr.specs.Rows.{descriptor_stands, of_descriptor_kept}
-use Rattle.proto_call.specs.Say.{call_job_say}
-use Rattle.proto_call.specs.Rows.{call_stands, of_call_kept, bodies_of}
-use Rattle.class_make.specs.Say.{class_job_say}
-use Rattle.class_make.specs.Rows.{class_stands, of_class_kept}
-use Rattle.proto_descr.specs.Say.{descriptor_say}
-use Rattle.natives.specs.Say.{NativeJob, native_job_say}
-use Rattle.proto_ops.specs.Say.{operator_say}
-use Rattle.proto_ops.specs.Rows.{operator_stands, of_operator_kept}
-use Rattle.proto_compare.specs.Say.{compare_job_say}
-use Rattle.proto_compare.specs.Rows.{compare_stands, of_compare_kept}
-use Rattle.proto_number.specs.Say.{number_job_say}
-use Rattle.proto_number.specs.Rows.{number_stands, of_number_kept}
-use Rattle.proto_iter.specs.Rows.{iter_stands, of_iter_kept}
-use Rattle.proto_items.specs.Rows.{items_stands, of_items_kept}
-use Rattle.proto_object.specs.Rows.{object_stands, of_object_kept}
-use Rattle.natives.specs.Rows.{natives_stands, of_natives_kept}
-use Rattle.proto_iter.specs.Say.{iter_job_say}
-use Rattle.proto_items.specs.Say.{items_job_say}
-use Rattle.proto_object.specs.Say.{object_job_say}
+use Rattle.vm_eval.specs.Below.{ℕ, List, [], Result, Raised as Fault, Answer, Task, Step, Ask, End, PlainWorld, PlainTask, ProtocolJob, DoIsTrue, DoIndex, DoWhole, DoLength, DoHint, DoGetIter, DoNext, DoCollect, DoContains, DoCount, DoFind, ToEval, ToAttribute, ToDescriptor, ToCall, ToClass, ToOperator, ToCompare, ToProtocol, ToObject, ToNative, Saying, Row, Pending, fresh, given, World, Reading, task_of, ended_of, Goes, Claim, eval_say, eval_stands, of_eval_kept, attribute_say, attribute_stands, of_attribute_kept, descriptor_stands, of_descriptor_kept, call_job_say, call_stands, of_call_kept, bodies_of, class_job_say, class_stands, of_class_kept, descriptor_say, operator_say, operator_stands, of_operator_kept, compare_job_say, compare_stands, of_compare_kept, number_job_say, number_stands, of_number_kept, iter_stands, of_iter_kept, items_stands, of_items_kept, object_stands, of_object_kept, iter_job_say, items_job_say, object_job_say}
+use Rattle.vm_eval.specs.OfNatives.Say.{NativeJob, native_job_say}
+use Rattle.vm_eval.specs.OfNatives.Rows.{natives_stands, of_natives_kept}
 use Rattle.vm_eval.specs.declared.protocols.Branch.{Branch}
 use Rattle.vm_eval.specs.declared.protocols.Branch.TheVariants as branch
 use Rattle.vm_eval.specs.declared.stack.Kept.{Kept}

@@ -1,16 +1,6 @@
 -- What a stack of frames comes to, in the terms of `reach`.
-use Rattle.std.specs.Prelude.{◌≡◌, ℕ, zero, suc, ◌+◌, ◌≤◌, List, [], ◌∷◌, ◌++◌, length, map, sum_by}
-use Rattle.py_node.specs.declared.task.Task.{Task}
-use Rattle.py_node.specs.declared.task.Step.{Step}
-use Rattle.py_node.specs.declared.task.Step.TheVariants.{Ask, End}
-use Rattle.plain_machine.specs.Plain.{PlainWorld, PlainTask, Answered}
-use Rattle.plain_machine.specs.Answer.{Ending, Over, NoUnits, Outcome, Out, carry, asked, reach, answer}
-use Rattle.plain_machine.specs.Rows.{Pending}
-use Rattle.class_world.specs.declared.world.World.{World}
-use Rattle.class_world.specs.Held.{Held}
-use Rattle.class_world.specs.Reading.{Reading, Reads, plain, task_of, ended_of}
-use Rattle.class_world.specs.Sound.{Claim}
-use Rattle.class_world.specs.Claims.{of_step, of_ended, left_open}
+use Rattle.vm_eval.specs.Below.{ℕ, zero, suc, List, [], length, map, sum_by, Task, Step, Ask, End, PlainWorld, PlainTask, Answered, Ending, Over, NoUnits, Outcome, Out, carry, asked, reach, answer, Pending, World, Held, Reading, Reads, plain, task_of, ended_of, Claim, of_step, of_ended, left_open}
+use Rattle.std.specs.Prelude.{◌≡◌, ◌+◌, ◌≤◌, ◌∷◌, ◌++◌}
 use Rattle.vm_eval.specs.declared.stack.Kept.{Kept}
 use Rattle.vm_eval.specs.declared.stack.Turn.{Turn}
 use Rattle.vm_eval.specs.declared.stack.Turn.TheVariants.{On, Finished, OutOfUnits}

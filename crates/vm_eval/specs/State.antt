@@ -1,17 +1,7 @@
 -- What callers see of a machine.
-use Rattle.std.specs.Prelude.{◌≡◌, ℕ, Bool, List, [], ◌∷◌, map, Option, Some, None, Result, Ok, Err, IsTrue, length}
-use Rattle.py_node.specs.declared.memory.OutOfMemory.{OutOfMemory}
-use Rattle.py_node.specs.declared.refs.PyObjectRef.{PyObjectRef}
-use Rattle.py_node.specs.declared.refs.PyStrInterned.{PyStrInterned}
-use Rattle.py_node.specs.declared.refs.PyTypeRef.{PyTypeRef}
-use Rattle.py_node.specs.Tree.{Text}
-use Rattle.class_table.specs.declared.fault.ClassFault.{ClassFault}
+use Rattle.vm_eval.specs.Below.{ℕ, Bool, List, [], map, Option, Some, None, Result, Ok, Err, IsTrue, length, OutOfMemory, PyObjectRef, PyStrInterned, PyTypeRef, Text, ClassFault, text_keys, with_new_class, Held, heap_class, numbers, Reading, Reads, bindings, spelled, plain}
+use Rattle.std.specs.Prelude.{◌≡◌, ◌∷◌}
 use Rattle.class_table.specs.declared.fault.ClassFault.TheVariants as class_fault
-use Rattle.plain_machine.specs.World.{text_keys, with_new_class}
-use Rattle.class_world.specs.Held.{Held}
-use Rattle.class_model.specs.Dict.{heap_class}
-use Rattle.class_table.specs.Keys.{numbers}
-use Rattle.class_world.specs.Reading.{Reading, Reads, bindings, spelled, plain}
 
 -- its world, whether it has failed, and for how many frames it has room
 pub record State : Type 0 where

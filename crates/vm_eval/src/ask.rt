@@ -1,10 +1,7 @@
 //! One task, which a host asks.
 
-ghost use Rattle.std.specs.Prelude.{◌≡◌, [], IfOk, OnOk, OnErr, Err, IsTrue, false};
-ghost use Rattle.plain_machine.specs.Sound.{IsSound};
-ghost use Rattle.class_world.specs.Claims.{of_answer, of_task};
-ghost use Rattle.class_world.specs.Reading.{Reading, plain, IsReadable};
-ghost use Rattle.class_world.specs.Sound.{AllHold, Grows};
+ghost use Rattle.vm_eval.specs.Below.{[], IfOk, OnOk, OnErr, Err, IsTrue, false, IsSound, of_answer, of_task, Reading, plain, IsReadable, AllHold, Grows};
+ghost use Rattle.std.specs.Prelude.{◌≡◌};
 ghost use Rattle.vm_eval.specs.Asks.{Asked, ending_in, of_done};
 ghost use Rattle.vm_eval.specs.Stack.{ending_of, of_end};
 

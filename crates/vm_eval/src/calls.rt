@@ -1,11 +1,8 @@
 //! What a host does with a machine beside running commands: it looks at the classes and gives names and expressions.
 //! Want of memory sets the machine's mark, as in a run.
 
-ghost use Rattle.std.specs.Prelude.{◌≡◌, true, IfOk, OnOk, OnErr};
-ghost use Rattle.py_node.specs.Tree.{tree_of};
-ghost use Rattle.class_world.specs.Names.{AddsName};
-ghost use Rattle.class_world.specs.Reading.{Reading, Reads, plain};
-ghost use Rattle.class_world.specs.Sound.{Holds, Grows, IsName, IsExpression};
+ghost use Rattle.vm_eval.specs.Below.{true, IfOk, OnOk, OnErr, tree_of, AddsName, Reading, Reads, plain, Holds, Grows, IsName, IsExpression};
+ghost use Rattle.std.specs.Prelude.{◌≡◌};
 ghost use Rattle.vm_eval.specs.State.{MarkedBy};
 
 use crate::machine::VirtualMachine;

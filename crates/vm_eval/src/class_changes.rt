@@ -1,29 +1,9 @@
 //! Classes that a host makes and changes on a machine. Each call is the world's own: its refusals and what it changes are
 //! those. Want of memory sets the machine's mark.
 
-ghost use Rattle.std.specs.Prelude.{◌≡◌, ◌+◌, ◌*◌, ◌≤◌, ◌∷◌, [], ℕ, Ok, None, Some, IfOk, OnOk, OnErr, IsSome, is_some, length, ◌++◌, true, false};
-ghost use Rattle.py_node.specs.declared.built_in.BuiltIn.{BuiltIn};
-ghost use Rattle.py_node.specs.declared.built_in.BuiltIn.TheVariants.{TypeType};
-ghost use Rattle.class_model.specs.Change.{with_bases};
-ghost use Rattle.class_model.specs.Class.{class_at as class_numbered, own_of};
-ghost use Rattle.class_model.specs.Layout.{best_of};
-ghost use Rattle.class_table.specs.Descendants.{descendants};
-ghost use Rattle.class_table.specs.Keys.{numbers, slot_names};
-ghost use Rattle.class_model.specs.Dict.{heap_class};
-ghost use Rattle.class_table.specs.OneBase.{refused_single, single_class, says_so, static_flags};
-ghost use Rattle.class_table.specs.Settle.{line_places};
-ghost use Rattle.class_table.specs.Rebase.{refused_change, refused_rebase, told, IsToldFirst};
-ghost use Rattle.class_table.specs.Refused.{refusal, WithMemory, IsEarly, refused_attr, NamesNoClass};
-ghost use Rattle.class_log.specs.Change.{SetOwn, DelOwn, SetBases as SetBasesChange};
-ghost use Rattle.class_log.specs.Logged.{made_by_script, made_single};
-ghost use Rattle.py_node.specs.BuiltIns.{heap_flags};
-ghost use Rattle.plain_machine.specs.Change.{SetBases, apply, without_own_attr};
-ghost use Rattle.plain_machine.specs.Known.{the_type};
-ghost use Rattle.plain_machine.specs.World.{ref, is_text, text_keys, has_dict, with_new_class, with_own_attr};
-ghost use Rattle.class_world.specs.NewHeap.{refused_heap, slot_texts, of_slots};
-ghost use Rattle.class_world.specs.Reading.{Reading, Reads, bindings, plain};
-ghost use Rattle.class_world.specs.Held.{Held};
-ghost use Rattle.class_world.specs.Sound.{AllHold, Holds, Grows, IsNode, IsName, AreNames, IsClass, IsOf, of_each, of_binding, of_class_ref};
+ghost use Rattle.vm_eval.specs.Below.{[], ℕ, Ok, None, Some, IfOk, OnOk, OnErr, IsSome, is_some, length, true, false, BuiltIn, TypeType, with_bases, class_at as class_numbered, own_of, best_of, descendants, numbers, slot_names, heap_class, refused_single, single_class, says_so, static_flags, line_places, refused_change, refused_rebase, told, IsToldFirst, refusal, WithMemory, IsEarly, refused_attr, NamesNoClass, SetOwn, DelOwn, made_by_script, made_single, heap_flags, SetBases, apply, without_own_attr, the_type, ref, is_text, text_keys, has_dict, with_new_class, with_own_attr, refused_heap, slot_texts, of_slots, Reading, Reads, bindings, plain, Held, AllHold, Holds, Grows, IsNode, IsName, AreNames, IsClass, IsOf, of_each, of_binding, of_class_ref};
+ghost use Rattle.std.specs.Prelude.{◌≡◌, ◌+◌, ◌*◌, ◌≤◌, ◌∷◌, ◌++◌};
+ghost use Rattle.class_table.specs.ClassLog.Change.{SetBases as SetBasesChange};
 ghost use Rattle.vm_eval.specs.State.{MadeHeap, MarkedAs, member_texts};
 
 use crate::machine::VirtualMachine;

@@ -8,6 +8,7 @@ mod look_ahead;
 pub mod machine;
 mod makers;
 mod mark;
+pub mod natives;
 mod nodes;
 pub mod protocols;
 mod run;

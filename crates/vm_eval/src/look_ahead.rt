@@ -1,9 +1,7 @@
 //! What a task finds first is found before it begins, so that it is kept for all that look it up after.
 
-ghost use Rattle.std.specs.Prelude.{◌≡◌, IfOk};
-ghost use Rattle.class_world.specs.Claims.{of_attribute_task, Leaves};
-ghost use Rattle.class_world.specs.Sound.{AllHold};
-ghost use Rattle.proto_attr.specs.Rows.{Begins, of_attribute_kept};
+ghost use Rattle.vm_eval.specs.Below.{IfOk, of_attribute_task, Leaves, AllHold, Begins, of_attribute_kept};
+ghost use Rattle.std.specs.Prelude.{◌≡◌};
 
 use class_world::World;
 use proto_attr::AttributeKept;

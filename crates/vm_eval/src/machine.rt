@@ -1,19 +1,12 @@
 //! The virtual machine: a world, and whether a run of it found no memory.
 
-ghost use Rattle.std.specs.Prelude.{◌≡◌, ◌≤◌, [], map, IfErr, IfOk, OnOk, OnErr, Err, IsTrue, false, true};
-ghost use Rattle.class_log.specs.Change.{change_of};
-ghost use Rattle.class_log.specs.Logged.{AreSameButForNames};
-ghost use Rattle.class_log.specs.Refused.{AreMade};
-ghost use Rattle.class_log.specs.Shown.{shown, first_classes};
-ghost use Rattle.plain_machine.specs.Start.{start};
-ghost use Rattle.class_world.specs.Reading.{Reading, Reads, plain, IsReadable};
-ghost use Rattle.plain_machine.specs.Sound.{IsSound};
-ghost use Rattle.class_world.specs.Sound.{Grows};
+ghost use Rattle.vm_eval.specs.Below.{[], map, IfErr, IfOk, OnOk, OnErr, Err, IsTrue, false, true, change_of, AreSameButForNames, AreMade, shown, first_classes, start, Reading, Reads, plain, IsReadable, IsSound, Grows};
+ghost use Rattle.std.specs.Prelude.{◌≡◌, ◌≤◌};
 ghost use Rattle.vm_eval.specs.Runs.{Runs};
 
 use crate::run::replies;
 use crate::stack::{DEPTH, Kept};
-use class_log::ClassChange;
+use class_table::class_log::ClassChange;
 use class_world::World;
 use py_node::{Command, OutOfMemory, Reply};
 use std::alloc::Global;

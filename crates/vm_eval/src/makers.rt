@@ -1,25 +1,16 @@
 //! Objects of native definitions that a host makes on a machine. Where memory runs out, only texts may have got numbers,
 //! and the machine's mark is set.
 
-ghost use Rattle.std.specs.Prelude.{◌≡◌, fold, None, Some, IfOk, OnErr, OnOk};
-ghost use Rattle.py_node.specs.BuiltIns.{place_of};
+ghost use Rattle.vm_eval.specs.Below.{fold, None, Some, IfOk, OnErr, OnOk, place_of, Cause as RefusalCause, refusal, refused_attr, NamesNoClass, AClassMethod, AStaticMethod, ABuiltinMethod, read_offset, set_offset, next_node, with_node, Reading, Reads, plain, spelled, spelled_option, AllHold, Grows, Holding, Holds, IsClass, IsName, IsNode, IsOffset, of_option, of_name_ref, definition_of, as_function, as_method, as_bound_method, with_method, as_member, member_of};
+ghost use Rattle.std.specs.Prelude.{◌≡◌};
 ghost use Rattle.py_node.specs.declared.built_in.BuiltIn.TheVariants as built_in;
-ghost use Rattle.py_node.specs.declared.raised.Cause.{Cause as RefusalCause};
-ghost use Rattle.class_table.specs.Refused.{refusal, refused_attr, NamesNoClass};
-ghost use Rattle.plain_machine.specs.Plain.{AClassMethod, AStaticMethod, ABuiltinMethod};
-ghost use Rattle.plain_machine.specs.Sound.{read_offset, set_offset};
-ghost use Rattle.plain_machine.specs.World.{next_node, with_node};
-ghost use Rattle.class_world.specs.Reading.{Reading, Reads, plain, spelled, spelled_option};
-ghost use Rattle.class_world.specs.Sound.{AllHold, Grows, Holding, Holds, IsClass, IsName, IsNode, IsOffset, of_option, of_name_ref};
-ghost use Rattle.native_defs.specs.Definitions.{definition_of, as_function, as_method, as_bound_method, with_method};
-ghost use Rattle.native_defs.specs.Members.{as_member, member_of};
 ghost use Rattle.vm_eval.specs.Makers.{Makes};
 ghost use Rattle.vm_eval.specs.State.{MarkedAs, MarkedBy};
 
 use crate::machine::VirtualMachine;
-use accessors::{PyClassMethod, PyMethodDescriptor, PyStaticMethod};
 use class_table::ClassFault;
-use native_defs::{PyMemberDef, PyMethodDef, extend_methods, new_member};
+use proto_attr::accessors::{PyClassMethod, PyMethodDescriptor, PyStaticMethod};
+use proto_attr::native_defs::{PyMemberDef, PyMethodDef, extend_methods, new_member};
 use py_node::{OutOfMemory, PyObjectRef, PyTypeRef};
 
 impl VirtualMachine {

@@ -1,10 +1,7 @@
 //! Objects that a host makes on a machine.
 
-ghost use Rattle.std.specs.Prelude.{◌≡◌, [], None, IfOk, OnOk, OnErr, Err, IsTrue, false};
-ghost use Rattle.plain_machine.specs.Sound.{IsSound};
-ghost use Rattle.plain_machine.specs.World.{with_node, next_node};
-ghost use Rattle.class_world.specs.Reading.{Reading, Reads, datum, plain, IsReadable};
-ghost use Rattle.class_world.specs.Sound.{AllHold, Grows, Holding, Holds, IsClass, IsNode, IsOf, class_in, home_of, of_payload};
+ghost use Rattle.vm_eval.specs.Below.{[], None, IfOk, OnOk, OnErr, Err, IsTrue, false, IsSound, with_node, next_node, Reading, Reads, datum, plain, IsReadable, AllHold, Grows, Holding, Holds, IsClass, IsNode, IsOf, class_in, home_of, of_payload};
+ghost use Rattle.std.specs.Prelude.{◌≡◌};
 
 use crate::machine::{RunFault, VirtualMachine};
 use py_node::{Payload, PyObjectRef, PyTypeRef};

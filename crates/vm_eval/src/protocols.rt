@@ -1,7 +1,7 @@
 //! The rows of numbers, iterations and items, which are of one group of tasks.
 
 ghost use Rattle.std.specs.Prelude.{◌≡◌};
-ghost use Rattle.class_world.specs.Reading.{protocol_job};
+ghost use Rattle.vm_eval.specs.Below.{protocol_job};
 ghost use Rattle.vm_eval.specs.Say.{branch_of};
 
 use py_node::protocol::ProtocolTask;

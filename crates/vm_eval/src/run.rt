@@ -1,12 +1,7 @@
 //! Commands, one after another.
 
-ghost use Rattle.std.specs.Prelude.{◌≡◌, ◌≤◌, [], IfErr, ◌∷◌, ◌++◌, IfOk, OnOk, vec_capacity};
-ghost use Rattle.py_node.specs.Tree.{tree_of};
-ghost use Rattle.py_node.specs.Replies.{reply_of, reply_answer_of, GivesValue};
-ghost use Rattle.plain_machine.specs.Show.{show as show_of};
-ghost use Rattle.plain_machine.specs.Answer.{answering};
-ghost use Rattle.class_world.specs.Reading.{Reading, plain};
-ghost use Rattle.class_world.specs.Sound.{AllHold, Lasts, Holds, IsNode};
+ghost use Rattle.vm_eval.specs.Below.{[], IfErr, IfOk, OnOk, vec_capacity, tree_of, reply_of, reply_answer_of, GivesValue, show as show_of, answering, Reading, plain, AllHold, Lasts, Holds, IsNode};
+ghost use Rattle.std.specs.Prelude.{◌≡◌, ◌≤◌, ◌∷◌, ◌++◌};
 ghost use Rattle.vm_eval.specs.Stack.{AsDeep, of_end, ending_of};
 ghost use Rattle.vm_eval.specs.Runs.{Replied, Runs};
 

@@ -1,38 +1,26 @@
 //! The stack of frames: one turn at a time, until a task is answered or its units are used up.
 
-ghost use Rattle.std.specs.Prelude.{◌≡◌, ◌<◌, ◌≤◌, ℕ, [], ◌∷◌, ◌++◌, IfOk, OnErr, OnOk, vec_capacity};
-ghost use Rattle.class_world.specs.Sound.{AllHold, Lasts, of_each};
-ghost use Rattle.class_world.specs.Claims.{of_task, of_protocol_task, of_ended, of_step, left_open, LeavesOpen};
-ghost use Rattle.eval_forms.specs.Rows.{of_eval_kept};
-ghost use Rattle.proto_attr.specs.Rows.{of_attribute_kept};
-ghost use Rattle.proto_descr.specs.Rows.{of_descriptor_kept};
-ghost use Rattle.proto_call.specs.Rows.{of_call_kept, bodies_of};
-ghost use Rattle.class_make.specs.Rows.{of_class_kept};
-ghost use Rattle.proto_ops.specs.Rows.{of_operator_kept};
-ghost use Rattle.proto_compare.specs.Rows.{of_compare_kept};
-ghost use Rattle.proto_number.specs.Rows.{of_number_kept};
-ghost use Rattle.proto_iter.specs.Rows.{of_iter_kept};
-ghost use Rattle.proto_items.specs.Rows.{of_items_kept};
-ghost use Rattle.proto_object.specs.Rows.{of_object_kept};
-ghost use Rattle.natives.specs.Rows.{of_natives_kept};
+ghost use Rattle.vm_eval.specs.Below.{ℕ, [], IfOk, OnErr, OnOk, vec_capacity, AllHold, Lasts, of_each, of_task, of_protocol_task, of_ended, of_step, left_open, LeavesOpen, of_eval_kept, of_attribute_kept, of_descriptor_kept, of_call_kept, bodies_of, of_class_kept, of_operator_kept, of_compare_kept, of_number_kept, of_iter_kept, of_items_kept, of_object_kept};
+ghost use Rattle.std.specs.Prelude.{◌≡◌, ◌<◌, ◌≤◌, ◌∷◌, ◌++◌};
+ghost use Rattle.vm_eval.specs.OfNatives.Rows.{of_natives_kept};
 ghost use Rattle.vm_eval.specs.Say.{Begins, Resumes, step_among, of_kept, bodies_in};
 ghost use Rattle.vm_eval.specs.Stack.{Answers, Reaches, Keeps, RunsAbove, AsDeep, EndsDeep, turns_left, of_turn, of_end};
 
 use crate::look_ahead;
+use crate::natives::NativesKept;
 use crate::protocols::{Branch, branch_of};
-use class_make::ClassKept;
 use class_world::World;
-use eval_forms::EvalKept;
-use natives::NativesKept;
 use proto_attr::AttributeKept;
+use proto_attr::proto_descr::DescriptorKept;
 use proto_call::CallKept;
-use proto_compare::CompareKept;
-use proto_descr::DescriptorKept;
-use proto_items::ItemsKept;
-use proto_iter::IterKept;
-use proto_number::NumberKept;
+use proto_call::class_make::ClassKept;
+use proto_call::eval_forms::EvalKept;
 use proto_object::ObjectKept;
+use proto_object::proto_items::ItemsKept;
+use proto_object::proto_iter::IterKept;
+use proto_object::proto_number::NumberKept;
 use proto_ops::OperatorKept;
+use proto_ops::proto_compare::CompareKept;
 use py_node::protocol::ProtocolTask;
 use py_node::{Answer, Cause, OutOfMemory, Raised, Step, Task};
 
@@ -71,7 +59,7 @@ fn begin(world: &mut World, task: Task) -> Result<Step<Kept>, OutOfMemory>
 {
     match task {
         Task::Eval(task) => {
-            let step = eval_forms::begin(world, task)?;
+            let step = proto_call::eval_forms::begin(world, task)?;
             Ok(of_eval(step))
         }
         Task::Attribute(task) => {
@@ -79,7 +67,7 @@ fn begin(world: &mut World, task: Task) -> Result<Step<Kept>, OutOfMemory>
             Ok(of_attribute(step))
         }
         Task::Descriptor(task) => {
-            let step = proto_descr::begin(world, task)?;
+            let step = proto_attr::proto_descr::begin(world, task)?;
             Ok(of_descriptor(step))
         }
         Task::Call(task) => {
@@ -87,7 +75,7 @@ fn begin(world: &mut World, task: Task) -> Result<Step<Kept>, OutOfMemory>
             Ok(of_call(step))
         }
         Task::Class(task) => {
-            let step = class_make::begin(world, task)?;
+            let step = proto_call::class_make::begin(world, task)?;
             Ok(of_class(step))
         }
         Task::Operator(task) => {
@@ -95,7 +83,7 @@ fn begin(world: &mut World, task: Task) -> Result<Step<Kept>, OutOfMemory>
             Ok(of_operator(step))
         }
         Task::Compare(task) => {
-            let step = proto_compare::begin(world, task)?;
+            let step = proto_ops::proto_compare::begin(world, task)?;
             Ok(of_compare(step))
         }
         Task::Protocol(task) => begin_protocol(world, task),
@@ -104,7 +92,7 @@ fn begin(world: &mut World, task: Task) -> Result<Step<Kept>, OutOfMemory>
             Ok(of_object(step))
         }
         Task::Native(entry, args, kw) => {
-            let step = natives::begin(world, entry, args, kw)?;
+            let step = crate::natives::begin(world, entry, args, kw)?;
             Ok(of_native(step))
         }
     }
@@ -118,15 +106,15 @@ fn begin_protocol(world: &mut World, task: ProtocolTask) -> Result<Step<Kept>, O
 {
     match branch_of(&task) {
         Branch::Numbers => {
-            let step = proto_number::begin(world, task)?;
+            let step = proto_object::proto_number::begin(world, task)?;
             Ok(of_number(step))
         }
         Branch::Iterations => {
-            let step = proto_iter::begin(world, task)?;
+            let step = proto_object::proto_iter::begin(world, task)?;
             Ok(of_iteration(step))
         }
         Branch::Items => {
-            let step = proto_items::begin(world, task)?;
+            let step = proto_object::proto_items::begin(world, task)?;
             Ok(of_items(step))
         }
     }
@@ -145,7 +133,7 @@ fn resume(
 {
     match kept {
         Kept::ForEval(kept) => {
-            let step = eval_forms::resume(world, kept, answer)?;
+            let step = proto_call::eval_forms::resume(world, kept, answer)?;
             Ok(of_eval(step))
         }
         Kept::ForAttribute(kept) => {
@@ -153,7 +141,7 @@ fn resume(
             Ok(of_attribute(step))
         }
         Kept::ForDescriptor(kept) => {
-            let step = proto_descr::resume(world, kept, answer)?;
+            let step = proto_attr::proto_descr::resume(world, kept, answer)?;
             Ok(of_descriptor(step))
         }
         Kept::ForCall(kept) => {
@@ -161,7 +149,7 @@ fn resume(
             Ok(of_call(step))
         }
         Kept::ForClass(kept) => {
-            let step = class_make::resume(world, kept, answer)?;
+            let step = proto_call::class_make::resume(world, kept, answer)?;
             Ok(of_class(step))
         }
         Kept::ForOperator(kept) => {
@@ -169,19 +157,19 @@ fn resume(
             Ok(of_operator(step))
         }
         Kept::ForCompare(kept) => {
-            let step = proto_compare::resume(world, kept, answer)?;
+            let step = proto_ops::proto_compare::resume(world, kept, answer)?;
             Ok(of_compare(step))
         }
         Kept::ForNumber(kept) => {
-            let step = proto_number::resume(world, kept, answer)?;
+            let step = proto_object::proto_number::resume(world, kept, answer)?;
             Ok(of_number(step))
         }
         Kept::ForIteration(kept) => {
-            let step = proto_iter::resume(world, kept, answer)?;
+            let step = proto_object::proto_iter::resume(world, kept, answer)?;
             Ok(of_iteration(step))
         }
         Kept::ForItems(kept) => {
-            let step = proto_items::resume(world, kept, answer)?;
+            let step = proto_object::proto_items::resume(world, kept, answer)?;
             Ok(of_items(step))
         }
         Kept::ForObject(kept) => {
@@ -189,7 +177,7 @@ fn resume(
             Ok(of_object(step))
         }
         Kept::ForNative(kept) => {
-            let step = natives::resume(world, kept, answer)?;
+            let step = crate::natives::resume(world, kept, answer)?;
             Ok(of_native(step))
         }
     }

@@ -1,16 +1,6 @@
 -- A store that has more has what it had, and lists of its parts grow by one.
-use Rattle.std.proofs.Common.{◌≡◌, ℕ, ◌+◌, ◌<◌, ◌≤◌, List, [], ◌∷◌, ◌++◌, length, get_or, map, take, take_all, String, string_bytes, Result, Ok, Err, IfOk, refl, ap, ◌∙◌, subst}
-use Rattle.std.specs.declared.alloc.Global.{Global}
-use Rattle.py_node.specs.declared.expr.Expr.{Expr}
-use Rattle.py_node.specs.declared.refs.PyStrInterned.{PyStrInterned}
-use Rattle.py_node.specs.declared.payload.Form.{Form}
-use Rattle.py_node.specs.Tree.{Text, Tree, tree_of, part_of, pair_of, texts_of}
-use Rattle.class_world.specs.Held.{Held}
-use Rattle.class_world.specs.Reading.{Reading, Reads, form_tree}
-use Rattle.class_world.specs.Sound.{IsName, AreNames, IsExpression, AreExpressions, Holds}
-use Rattle.class_world.proofs.Growth.{grows-itself, grows-on}
-use Rattle.class_world.proofs.Stored.{map-next, names-push, no-names}
-use Rattle.world_text.specs.Store.{Adds, HasName, HasNames, HasTree, HasTrees, HasPairs, HasEntries, HasForm}
+use Rattle.world_text.proofs.Below.{ℕ, List, [], length, get_or, map, take, take_all, String, string_bytes, Result, Ok, Err, IfOk, refl, ap, ◌∙◌, subst, Global, Expr, PyStrInterned, Form, Text, Tree, tree_of, part_of, pair_of, texts_of, Held, Reading, Reads, form_tree, IsName, AreNames, IsExpression, AreExpressions, Holds, grows-itself, grows-on, map-next, names-push, no-names, Adds, HasName, HasNames, HasTree, HasTrees, HasPairs, HasEntries, HasForm}
+use Rattle.std.proofs.Common.{◌≡◌, ◌+◌, ◌<◌, ◌≤◌, ◌∷◌, ◌++◌}
 use Rattle.world_text.proofs.Parts.{no-expressions, expressions-push, keys-push, values-push, entry-names-push, entry-expressions-push}
 
 pub adds-itself : (w : Held) → Adds w w

@@ -1,33 +1,8 @@
 -- The lines of classes are the same by numbers as by texts.
-use Rattle.std.proofs.Common.{◌≡◌, ℕ, zero, suc, ◌+◌, ◌≤◌, cond, List, [], ◌∷◌, ◌++◌, map, length, take, get_or, Option, Some, None, refl, sym, ap, ◌∙◌, arith}
-use Rattle.std.specs.Prelude.{codes, slice_get, option_map}
-use Rattle.std.specs.List.{flat_map}
-use Rattle.std.proofs.lemmas.Grind.{common_steps, flat_map-append}
-use Rattle.std.proofs.lemmas.List.{take_more, take_all, length-map, append-nil}
-use Rattle.std.proofs.lemmas.Option.{slice_get_within, get_or_from_slice_get}
-use Rattle.py_node.specs.declared.refs.PyStrInterned.{PyStrInterned}
-use Rattle.py_node.specs.declared.refs.PyTypeRef.{PyTypeRef}
-use Rattle.py_node.specs.declared.entry.SlotId.{SlotId}
-use Rattle.py_node.specs.declared.entry.SlotEntry.{SlotEntry}
-use Rattle.py_node.specs.declared.known.Known.{Known}
-use Rattle.py_node.specs.Known.{known_texts}
-use Rattle.py_node.specs.Slots.{all_slots}
-use Rattle.py_node.specs.Tree.{Text}
-use Rattle.plain_machine.specs.Escapes.{escaped}
-use Rattle.plain_machine.specs.Lines.{joined, end_of_line}
-use Rattle.plain_machine.specs.ClassLines.{class_head, slots_head, slot_word, class_lines}
-use Rattle.class_model.specs.Class.{Classes, class_at, lin, renamed}
-use Rattle.class_model.specs.Name.{short_name}
-use Rattle.class_model.specs.Numbers.{numbers_of}
-use Rattle.class_model.specs.Slot.{Keys, is_heap_at, entry}
-use Rattle.class_model.specs.BuiltIn.{natives_of}
-use Rattle.class_model.proofs.Renamed.{at-renamed, numbers-renamed, lin-renamed, entry-renamed}
-use Rattle.class_table.specs.Keys.{table_keys, numbers}
-use Rattle.plain_machine.specs.World.{text_keys, or_empty}
-use Rattle.plain_machine.specs.ClassText.{slot_words, own_words, name_at, names_along, class_text, heap_text, classes_text}
-use Rattle.class_world.specs.Held.{Held}
-use Rattle.class_world.specs.Reading.{Reading, Reads, spelled, plain}
-use Rattle.class_world.proofs.Look.{known-read}
+use Rattle.world_text.proofs.Below.{ℕ, zero, suc, List, [], map, length, take, get_or, Some, None, refl, sym, ap, ◌∙◌, arith, codes, slice_get, option_map, flat_map, common_steps, flat_map-append, take_more, length-map, append-nil, slice_get_within, get_or_from_slice_get, PyStrInterned, PyTypeRef, SlotId, SlotEntry, Known, known_texts, all_slots, Text, escaped, joined, end_of_line, class_head, slots_head, slot_word, class_lines, Classes, class_at, lin, renamed, short_name, numbers_of, Keys, is_heap_at, natives_of, at-renamed, numbers-renamed, lin-renamed, entry-renamed, table_keys, numbers, text_keys, or_empty, slot_words, own_words, name_at, names_along, class_text, heap_text, classes_text, Held, Reading, Reads, spelled, plain, known-read}
+use Rattle.std.proofs.Common.{◌≡◌, ◌+◌, ◌≤◌, cond, ◌∷◌, ◌++◌, Option}
+use Rattle.std.proofs.lemmas.List.{take_all}
+use Rattle.class_model.specs.Slot.{entry}
 
 module _ {K L : Type 0} (f : K → L) (keys : Keys K) (others : Keys L) (agree : (a b : K) → others.same (f a) (f b) ≡ keys.same a b) (special : (k : Known) → others.special k ≡ f (keys.special k)) (t : Classes K) where
   name-renamed : (c : ℕ) → name_at (renamed f t) c ≡ name_at t c

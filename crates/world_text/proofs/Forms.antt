@@ -1,20 +1,8 @@
 -- What is to be stored stands for the tree of its expression, where its parts do.
-use Rattle.std.proofs.Common.{◌≡◌, ℕ, List, [], ◌∷◌, map, String, string_bytes, refl, sym, ap, ◌∙◌, subst, rules}
-use Rattle.std.specs.Global.{Box, Vec}
-use Rattle.std.specs.declared.alloc.Global.{Global}
-use Rattle.py_node.specs.declared.refs.PyStrInterned.{PyStrInterned}
-use Rattle.py_node.specs.declared.expr.Word.{Word}
-use Rattle.py_node.specs.declared.expr.FuncParts.{FuncParts}
-use Rattle.py_node.specs.declared.expr.CallParts.{CallParts}
-use Rattle.py_node.specs.declared.expr.ClassParts.{ClassParts}
-use Rattle.py_node.specs.declared.expr.SetAttrParts.{SetAttrParts}
+use Rattle.world_text.proofs.Below.{ℕ, List, [], map, String, string_bytes, refl, sym, ap, ◌∙◌, subst, rules, Box, Vec, Global, PyStrInterned, Word, FuncParts, CallParts, ClassParts, SetAttrParts, Expr, the_lemmas, TBind, TTuple, TList, TDict, TFunc, TAttr, TSetAttr, TDelAttr, TCall, TOp, TIf, TSeq, TClass, entry, entries_of, trees_of, keyed_of, texts_of, tree_of, part_of, pair_of, Held, entry_list, HasName, HasNames, HasTree, HasTrees, HasPairs, HasEntries, HasForm}
+use Rattle.std.proofs.Common.{◌≡◌, ◌∷◌}
 use Rattle.py_node.specs.declared.payload.Form.TheVariants as form
-use Rattle.py_node.specs.declared.expr.Expr.{Expr, the_lemmas}
 use Rattle.py_node.specs.declared.expr.Expr.TheViews as expr
-use Rattle.py_node.specs.Tree.{TBind, TTuple, TList, TDict, TFunc, TAttr, TSetAttr, TDelAttr, TCall, TOp, TIf, TSeq, TClass, entry, entries_of, trees_of, keyed_of, texts_of, tree_of, part_of, pair_of}
-use Rattle.class_world.specs.Held.{Held}
-use Rattle.class_world.specs.Reading.{entry_list}
-use Rattle.world_text.specs.Store.{HasName, HasNames, HasTree, HasTrees, HasPairs, HasEntries, HasForm}
 
 -- entries, by their texts and trees
 entries_parts : (es : List (String Global × Expr)) → entry_list (map part_of es) ≡ entries_of (map (λ p. (p.0, tree_of p.1)) es)

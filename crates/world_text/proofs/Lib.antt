@@ -1,3 +1,5 @@
+pub mod Lemmas
+pub mod Below
 pub mod Adding
 pub mod Forms
 pub mod Parts

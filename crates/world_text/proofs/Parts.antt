@@ -1,9 +1,6 @@
 -- Lists of expressions, keys and entries that grow by one.
-use Rattle.std.proofs.Common.{ℕ, ◌<◌, List, [], ◌∷◌, ◌++◌, length, map, sym, subst, arith}
-use Rattle.py_node.specs.declared.refs.PyStrInterned.{PyStrInterned}
-use Rattle.class_world.specs.Held.{Held}
-use Rattle.class_world.specs.Sound.{IsExpression, AreExpressions, IsName, AreNames, Holds}
-use Rattle.class_world.proofs.Stored.{all-push, map-push, names-push}
+use Rattle.world_text.proofs.Below.{ℕ, List, [], length, map, sym, subst, arith, PyStrInterned, Held, IsExpression, AreExpressions, IsName, AreNames, Holds, all-push, map-push, names-push}
+use Rattle.std.proofs.Common.{◌<◌, ◌∷◌, ◌++◌}
 
 pub expressions-push : (w : Held) (ns : List ℕ) (n : ℕ) → Holds w (AreExpressions ns) → Holds w (IsExpression n) → Holds w (AreExpressions (ns ++ n ∷ []))
 unfolding Holds

@@ -1,17 +1,7 @@
 -- The texts of containers.
-use Rattle.std.proofs.Common.{◌≡◌, ℕ, zero, suc, ◌<◌, ◌≤◌, List, [], ◌∷◌, ◌++◌, length, Some, refl, sym, ap, ◌∙◌, subst, arith, get_or, take, take_all, drop, map, String, string_bytes}
-use Rattle.std.specs.Prelude.{Bool, true, cond, ◌==◌, Option}
-use Rattle.std.specs.List.{flat_map, join_by}
-use Rattle.std.specs.declared.alloc.Global.{Global}
-use Rattle.py_node.specs.declared.refs.PyObjectRef.{PyObjectRef}
-use Rattle.py_node.specs.Tree.{Text}
-use Rattle.plain_machine.specs.Lines.{joined}
-use Rattle.plain_machine.specs.Show.{dots, plain_text, datum_text, rest_text, item_texts, entry_text, tuple_text, list_text, dict_text, containers, text_within}
-use Rattle.class_world.specs.Held.{Held}
-use Rattle.class_world.specs.Sound.{IsNode, AreNodes, Holds}
-use Rattle.plain_machine.specs.Plain.{ATuple, AList, ADict, PlainWorld}
-use Rattle.class_world.proofs.Stored.{map-push}
-use Rattle.world_text.specs.Inside.{inside, or_dots}
+use Rattle.world_text.proofs.Below.{ℕ, zero, suc, List, [], length, Some, refl, sym, ap, ◌∙◌, subst, arith, get_or, take, take_all, drop, map, String, string_bytes, Bool, true, cond, Option, flat_map, join_by, Global, PyObjectRef, Text, joined, dots, plain_text, datum_text, rest_text, item_texts, entry_text, tuple_text, list_text, dict_text, containers, text_within, Held, IsNode, AreNodes, Holds, ATuple, AList, ADict, PlainWorld, map-push, inside, or_dots}
+use Rattle.std.proofs.Common.{◌≡◌, ◌<◌, ◌≤◌, ◌∷◌, ◌++◌}
+use Rattle.std.specs.Prelude.{◌==◌}
 
 -- texts with a separator, by what they are the texts of
 pub join-read : (between : Text) (xs : List (String Global)) → join_by string_bytes between xs ≡ joined between (map string_bytes xs)

@@ -1,9 +1,5 @@
 -- What is shown inside a container, and where it is not.
-use Rattle.std.specs.Prelude.{ℕ, zero, suc, List, map, Option, Some, None, option_map, String, string_bytes}
-use Rattle.std.specs.Global.{Vec}
-use Rattle.std.specs.declared.alloc.Global.{Global}
-use Rattle.py_node.specs.Tree.{Text}
-use Rattle.plain_machine.specs.Show.{dots}
+use Rattle.world_text.specs.Below.{ℕ, zero, suc, List, map, Option, Some, None, option_map, String, string_bytes, Vec, Global, Text, dots}
 
 -- texts, by their bytes
 abbrev pub texts_of : Option (Vec (String Global)) → Option (List Text)

@@ -1,11 +1,6 @@
 -- What is in the store of a world, and a store that has more.
-use Rattle.std.specs.Prelude.{◌≡◌, ℕ, List, map}
-use Rattle.py_node.specs.declared.refs.PyStrInterned.{PyStrInterned}
-use Rattle.py_node.specs.declared.payload.Form.{Form}
-use Rattle.py_node.specs.Tree.{Text, Tree}
-use Rattle.class_world.specs.Held.{Held}
-use Rattle.class_world.specs.Reading.{Reading, Reads, form_tree, plain}
-use Rattle.class_world.specs.Sound.{IsName, AreNames, IsExpression, AreExpressions, Holds, AllHold, Grows, of_form}
+use Rattle.world_text.specs.Below.{ℕ, List, map, PyStrInterned, Form, Text, Tree, Held, Reading, Reads, form_tree, plain, IsName, AreNames, IsExpression, AreExpressions, Holds, AllHold, Grows, of_form}
+use Rattle.std.specs.Prelude.{◌≡◌}
 
 -- a world with more names and expressions: it says the same, and what reads it reads the old one
 pub record Adds (old new : Held) : Type 0 where

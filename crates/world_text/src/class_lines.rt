@@ -1,23 +1,15 @@
 //! The lines of the classes that scripts made.
 
-ghost use Rattle.std.specs.Prelude.{◌≡◌, ◌++◌, ℕ, true, IfOk, OnOk, codes, map, Some};
-ghost use Rattle.std.specs.List.{flat_map};
-ghost use Rattle.py_node.specs.Slots.{all_slots};
-ghost use Rattle.plain_machine.specs.Escapes.{escaped};
-ghost use Rattle.plain_machine.specs.Lines.{joined, end_of_line};
-ghost use Rattle.plain_machine.specs.ClassLines.{class_head, slots_head, slot_word};
-ghost use Rattle.class_model.specs.Order.{Includes};
-ghost use Rattle.class_model.specs.Class.{is_class};
-ghost use Rattle.class_model.specs.Numbers.{numbers_of};
-ghost use Rattle.class_table.specs.Keys.{table_keys, numbers};
-ghost use Rattle.plain_machine.specs.ClassText.{slot_words, own_words, name_at, class_text, heap_text, classes_text};
-ghost use Rattle.class_world.specs.Reading.{Reading, Reads, plain};
+ghost use Rattle.world_text.specs.Below.{ℕ, true, IfOk, OnOk, codes, map, Some, flat_map, all_slots, escaped, joined, end_of_line, class_head, slots_head, slot_word, Includes, is_class, numbers_of, table_keys, numbers, slot_words, own_words, name_at, class_text, heap_text, classes_text, Reading, Reads, plain};
+ghost use Rattle.std.specs.Prelude.{◌≡◌, ◌++◌};
 
 use class_table::ClassTable;
 use class_world::World;
 use py_node::slots::slots;
 use py_node::{OutOfMemory, PyTypeRef, SlotEntry, SlotId, Sort};
-use reply_text::class::{push_class_head, push_class_member, push_end, push_slot, push_slots_head};
+use script_text::reply_text::class::{
+    push_class_head, push_class_member, push_end, push_slot, push_slots_head,
+};
 use std::alloc::Global;
 
 /// The lines of the classes that scripts made in a world, in the order in which they were made: of each the names along

@@ -1,9 +1,7 @@
 //! Expressions go into the store: names are interned, and the parts of an expression go in first.
 
-ghost use Rattle.std.specs.Prelude.{◌≡◌, map, IfOk, string_bytes};
-ghost use Rattle.py_node.specs.Tree.{TConst, literal_of, tree_of, part_of, pair_of, texts_of};
-ghost use Rattle.class_world.specs.Reading.{Reading, Reads, plain};
-ghost use Rattle.class_world.specs.Sound.{IsExpression, Holds, Grows};
+ghost use Rattle.world_text.specs.Below.{map, IfOk, string_bytes, TConst, literal_of, tree_of, part_of, pair_of, texts_of, Reading, Reads, plain, IsExpression, Holds, Grows};
+ghost use Rattle.std.specs.Prelude.{◌≡◌};
 ghost use Rattle.world_text.specs.Store.{Adds, HasName, HasNames, HasTree, HasTrees, HasPairs, HasEntries, HasForm};
 
 use class_world::World;

@@ -1,18 +1,13 @@
 //! The text of an object, as replies show it.
 
-ghost use Rattle.std.specs.Prelude.{◌≡◌, ◌==◌, ◌++◌, IfOk, OnOk, codes, string_bytes, option_map, map, take, drop};
-ghost use Rattle.py_node.specs.BuiltIns.{place_of};
-ghost use Rattle.plain_machine.specs.Escapes.{escaped};
-ghost use Rattle.plain_machine.specs.Lines.{joined};
-ghost use Rattle.plain_machine.specs.Show.{show, class_name, plain_text, fixed_text, datum_text, dots, rest_text, item_texts, entry_text, tuple_end, tuple_text, list_text, dict_text, containers, text_within};
-ghost use Rattle.class_world.specs.Reading.{Reading, plain, datum};
-ghost use Rattle.class_world.specs.Sound.{IsNode, AreNodes, IsClass, Holds, AllHold, of_payload};
+ghost use Rattle.world_text.specs.Below.{IfOk, OnOk, codes, string_bytes, option_map, map, take, drop, place_of, escaped, joined, show, class_name, plain_text, fixed_text, datum_text, dots, rest_text, item_texts, entry_text, tuple_end, tuple_text, list_text, dict_text, containers, text_within, Reading, plain, datum, IsNode, AreNodes, IsClass, Holds, AllHold, of_payload};
+ghost use Rattle.std.specs.Prelude.{◌≡◌, ◌==◌, ◌++◌};
 ghost use Rattle.world_text.specs.Inside.{texts_of, inside, or_dots};
 
 use class_world::World;
 use class_world::built_ins::{FALSE, NONE, NOT_IMPLEMENTED, TRUE};
 use py_node::{BuiltIn, OutOfMemory, Payload, PyObjectRef, PyTypeRef};
-use reply_text::escape::{escaped_string, quoted_string};
+use script_text::reply_text::escape::{escaped_string, quoted_string};
 use std::alloc::Global;
 
 // How many containers deep are shown, and how many items of each.

@@ -1,4 +1,4 @@
-use Rattle.class_world.proofs.Growth.{grows-itself}
+use Rattle.proto_attr.proofs.Lemmas.{grows-itself}
 use Rattle.proto_attr.proofs.resume.Goals as goal
 
 pub returns-in-Maybe-clause-safe : goal.returns-in-Maybe-clause-safe

@@ -1,10 +1,4 @@
-use Rattle.std.proofs.Common.{map, string_bytes, sym, ap, ◌∙◌, String}
-use Rattle.std.specs.declared.alloc.Global.{Global}
-use Rattle.py_node.specs.declared.expr.CallParts.{CallParts}
-use Rattle.py_node.specs.declared.expr.ClassParts.{ClassParts}
-use Rattle.py_node.specs.declared.expr.Expr.{Expr}
-use Rattle.py_node.specs.Tree.{tree_of, part_of}
-use Rattle.py_node.proofs.Copies.{same_call, same_class}
+use Rattle.py_node.proofs.Lemmas.{map, string_bytes, sym, ap, ◌∙◌, String, Global, CallParts, ClassParts, Expr, tree_of, part_of, same_call, same_class}
 use Rattle.py_node.proofs.+copy.Goals as goal
 
 pub expr::Expr::try_clone-returns-in_ok-boxed-in-Call : goal.expr::Expr::try_clone-returns-in_ok-boxed-in-Call

@@ -1,5 +1,5 @@
-use Rattle.std.proofs.Common.{◌≡◌, take, map}
-use Rattle.py_node.specs.Tree.{tree_of, part_of, pair_of}
+use Rattle.py_node.proofs.Below.{take, map, tree_of, part_of, pair_of}
+use Rattle.std.proofs.Common.{◌≡◌}
 use Rattle.py_node.proofs.+copy.Given as goal
 
 abbrev pub invariant-clone::copy_all-loop-expr : goal.invariant-clone::copy_all-loop-expr

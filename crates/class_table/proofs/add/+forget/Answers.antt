@@ -1,14 +1,5 @@
-use Rattle.std.proofs.Common.{◌-◌, ◌∷◌, [], length, get_or, take, drop, ap, subst, ◌∙◌, arith}
-use Rattle.py_node.specs.declared.refs.PyStrInterned.{PyStrInterned}
-use Rattle.class_model.specs.Order.{Distinct}
-use Rattle.class_model.specs.Class.{Classes, is_class}
-use Rattle.class_model.specs.Numbers.{is_ascending}
-use Rattle.class_table.specs.Keys.{numbers}
-use Rattle.class_table.specs.Stored.{classes_of}
-use Rattle.class_table.specs.Made.{noted}
-use Rattle.class_table.specs.Refused.{AreThere}
-use Rattle.class_table.proofs.Heaps.{first-others, fewer-others, none-of}
-use Rattle.class_table.proofs.Noted.{noted-none, noted-first}
+use Rattle.class_table.proofs.Lemmas.{[], length, get_or, take, drop, ap, subst, ◌∙◌, arith, PyStrInterned, Distinct, Classes, is_class, is_ascending, numbers, classes_of, noted, AreThere, first-others, fewer-others, none-of, noted-none, noted-first}
+use Rattle.std.proofs.Common.{◌-◌, ◌∷◌}
 use Rattle.class_table.proofs.add.+forget.Goals as goal
 
 pub forget-requires : goal.forget-requires

@@ -1,15 +1,5 @@
-use Rattle.std.proofs.Common.{List, ◌-◌, length, get_or, take, drop, sym, ap, subst, ◌∙◌, arith}
-use Rattle.class_model.specs.Order.{Distinct}
-use Rattle.class_model.specs.Class.{Classes}
-use Rattle.class_model.specs.Numbers.{is_ascending}
-use Rattle.py_node.specs.declared.refs.PyStrInterned.{PyStrInterned}
-use Rattle.class_table.specs.Keys.{numbers}
-use Rattle.class_table.specs.Stored.{StoredClass, classes_of}
-use Rattle.class_table.specs.Made.{noted}
-use Rattle.class_table.specs.Refused.{AreThere}
-use Rattle.class_model.specs.Class.{is_class}
-use Rattle.class_table.proofs.Heaps.{first-others, fewer-others, none-of}
-use Rattle.class_table.proofs.Noted.{noted-none, noted-all, plain-mid}
+use Rattle.class_table.proofs.Lemmas.{List, length, get_or, take, drop, sym, ap, subst, ◌∙◌, arith, Distinct, Classes, is_ascending, PyStrInterned, numbers, StoredClass, classes_of, noted, AreThere, is_class, first-others, fewer-others, none-of, noted-none, noted-all, plain-mid}
+use Rattle.std.proofs.Common.{◌-◌}
 use Rattle.class_table.proofs.add.+note.Goals as goal
 
 pub note-requires : goal.note-requires

@@ -1,4 +1,4 @@
-use Rattle.std.proofs.Common.{length}
+use Rattle.class_table.proofs.Below.{length}
 use Rattle.class_table.proofs.add.+note.Given as goal
 
 abbrev pub decreases-note : goal.decreases-note

@@ -1,6 +1,5 @@
-use Rattle.std.proofs.Common.{refl}
-use Rattle.class_table.specs.New.{class_of_new}
-use Rattle.class_table.proofs.Pushed.{bases-there, bases-once, step-lines, step-inside, step-full, step-done}
+use Rattle.class_table.proofs.Lemmas.{refl, class_of_new, bases-once, step-lines, step-inside, step-full, step-done}
+use Rattle.class_table.proofs.Pushed.{bases-there}
 use Rattle.class_table.proofs.add.add.Goals as goal
 
 pub attach-requires-clause-there : goal.attach-requires-clause-there

@@ -1,12 +1,5 @@
-use Rattle.std.proofs.Common.{◌≡◌, ℕ, List, sym, ap, subst, ◌∙◌}
-use Rattle.py_node.specs.declared.refs.PyStrInterned.{PyStrInterned}
-use Rattle.class_model.specs.Class.{Classes}
-use Rattle.class_model.specs.Numbers.{is_ascending}
-use Rattle.class_table.specs.Keys.{numbers}
-use Rattle.class_table.specs.Made.{noted}
-use Rattle.class_table.specs.Refused.{AreThere}
-use Rattle.class_table.specs.Stored.{StoredClass, classes_of}
-use Rattle.class_table.proofs.Noted.{plain-noted}
+use Rattle.class_table.proofs.Lemmas.{ℕ, List, sym, ap, subst, ◌∙◌, PyStrInterned, Classes, is_ascending, numbers, noted, AreThere, StoredClass, classes_of, plain-noted}
+use Rattle.std.proofs.Common.{◌≡◌}
 use Rattle.class_table.proofs.add.attach.Goals as goal
 
 pub forget-requires-clause-ascending : goal.forget-requires-clause-ascending

@@ -1,5 +1,4 @@
-use Rattle.class_table.proofs.Found.{element, number-within}
-use Rattle.class_table.proofs.Noted.{forgotten}
+use Rattle.class_table.proofs.Lemmas.{element, number-within, forgotten}
 use Rattle.class_table.proofs.add.forget_in.Goals as goal
 
 pub forget_subclass-requires : goal.forget_subclass-requires

@@ -1,6 +1,4 @@
-use Rattle.std.proofs.Common.{◌∙◌}
-use Rattle.class_table.proofs.Found.{element, number-within}
-use Rattle.class_table.proofs.Noted.{noted-here}
+use Rattle.class_table.proofs.Lemmas.{◌∙◌, element, number-within, noted-here}
 use Rattle.class_table.proofs.add.note_in.Goals as goal
 
 pub add_subclass-requires : goal.add_subclass-requires

@@ -1,11 +1,5 @@
-use Rattle.std.proofs.Common.{Some, List, refl, sym, ap, cond, ◌||◌, not, ◌∙◌, arith}
-use Rattle.std.specs.Prelude.{nat_lt}
-use Rattle.class_model.specs.Layout.{built_ins, is_empty}
-use Rattle.py_node.specs.declared.refs.PyStrInterned.{PyStrInterned}
-use Rattle.class_table.specs.Keys.{numbers, number_of}
-use Rattle.class_table.specs.Stored.{classes_of}
-use Rattle.class_table.specs.New.{class_of_new}
-use Rattle.class_table.proofs.Pushed.{there-of, best-there, line-given, base-given, solid-given, count-given}
+use Rattle.class_table.proofs.Lemmas.{Some, List, refl, sym, ap, cond, not, ◌∙◌, arith, nat_lt, built_ins, is_empty, PyStrInterned, numbers, number_of, classes_of, class_of_new, there-of, best-there, line-given, base-given, solid-given, count-given}
+use Rattle.std.proofs.Common.{◌||◌}
 use Rattle.class_table.proofs.add.with_line.Goals as goal
 
 pub inherited-requires-clause-there : goal.inherited-requires-clause-there

@@ -1,7 +1,4 @@
-use Rattle.class_table.specs.Keys.{numbers}
-use Rattle.class_table.specs.Stored.{classes_of}
-use Rattle.class_table.proofs.Pushed.{each-there}
-use Rattle.class_table.proofs.Touched.{bases-there, affected-is}
+use Rattle.class_table.proofs.Lemmas.{numbers, classes_of, each-there, bases-there, affected-is}
 use Rattle.class_table.proofs.affected.affected.Goals as goal
 
 pub add_places-requires-clause-there : goal.add_places-requires-clause-there

@@ -1,8 +1,5 @@
-use Rattle.std.proofs.Common.{◌≡◌, ◌<◌, true, sym, subst}
-use Rattle.class_model.specs.Class.{is_class}
-use Rattle.class_model.specs.Layout.{built_ins}
-use Rattle.class_model.proofs.Names.{place-first}
-use Rattle.class_table.proofs.Owned.{own-set}
+use Rattle.class_table.proofs.Lemmas.{true, sym, subst, is_class, built_ins, place-first, own-set}
+use Rattle.std.proofs.Common.{◌≡◌, ◌<◌}
 use Rattle.class_table.proofs.attributes_of_built_ins.add_attr.Goals as goal
 
 pub put_attr-requires-clause-there : goal.put_attr-requires-clause-there

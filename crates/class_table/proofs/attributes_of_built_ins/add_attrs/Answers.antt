@@ -1,6 +1,4 @@
-use Rattle.std.proofs.Common.{◌∙◌, ap, fold, arith}
-use Rattle.class_table.specs.Start.{with_own}
-use Rattle.class_table.proofs.Owned.{fold-more, fold-end, own-there-yet, own-few-yet}
+use Rattle.class_table.proofs.Lemmas.{◌∙◌, ap, fold, arith, with_own, fold-more, fold-end, own-there-yet, own-few-yet}
 use Rattle.class_table.proofs.attributes_of_built_ins.add_attrs.Goals as goal
 
 pub add_attr-requires-clause-there : goal.add_attr-requires-clause-there

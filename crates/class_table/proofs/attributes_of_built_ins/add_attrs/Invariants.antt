@@ -1,5 +1,5 @@
-use Rattle.std.proofs.Common.{◌≡◌, take, fold}
-use Rattle.class_table.specs.Start.{with_own}
+use Rattle.class_table.proofs.Below.{take, fold, with_own}
+use Rattle.std.proofs.Common.{◌≡◌}
 use Rattle.class_table.proofs.attributes_of_built_ins.add_attrs.Given as goal
 
 abbrev pub invariant-loop-attr : goal.invariant-loop-attr

@@ -1,8 +1,5 @@
-use Rattle.std.proofs.Common.{◌∙◌, ap, fold, arith}
-use Rattle.py_node.specs.BuiltIns.{fixed_node_count}
-use Rattle.class_table.specs.Start.{Numbered, with_all_own}
-use Rattle.class_table.proofs.StartParts.{Row, fold-rows}
-use Rattle.class_table.proofs.Owned.{fold-more, fold-end, each-there-yet, each-few-yet}
+use Rattle.class_table.proofs.Lemmas.{◌∙◌, ap, fold, arith, fixed_node_count, Numbered, with_all_own, fold-rows, fold-more, fold-end, each-there-yet, each-few-yet}
+use Rattle.class_table.proofs.StartParts.{Row}
 use Rattle.class_table.proofs.attributes_of_built_ins.add_own_attrs.Goals as goal
 
 pub add_attrs-requires-clause-there : goal.add_attrs-requires-clause-there

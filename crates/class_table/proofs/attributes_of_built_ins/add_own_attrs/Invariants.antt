@@ -1,6 +1,5 @@
-use Rattle.std.proofs.Common.{◌≡◌, take, fold}
-use Rattle.py_node.specs.BuiltIns.{fixed_node_count}
-use Rattle.class_table.specs.Start.{with_all_own}
+use Rattle.class_table.proofs.Below.{take, fold, fixed_node_count, with_all_own}
+use Rattle.std.proofs.Common.{◌≡◌}
 use Rattle.class_table.proofs.attributes_of_built_ins.add_own_attrs.Given as goal
 
 abbrev pub invariant-loop-row : goal.invariant-loop-row

@@ -1,9 +1,4 @@
-use Rattle.std.proofs.Common.{Some, sym, ap}
-use Rattle.std.specs.Prelude.{option_map}
-use Rattle.std.proofs.lemmas.Option.{slice_get_within}
-use Rattle.class_table.specs.Keys.{numbers}
-use Rattle.class_table.specs.Rebase.{Refusal}
-use Rattle.class_table.proofs.Blames.{failing-first, failing-none}
+use Rattle.class_table.proofs.Lemmas.{Some, sym, ap, option_map, slice_get_within, numbers, Refusal, failing-first, failing-none}
 use Rattle.class_table.proofs.blame.blamed.Goals as goal
 
 pub returns-in-None : goal.returns-in-None

@@ -1,12 +1,5 @@
-use Rattle.std.proofs.Common.{◌≡◌, true, false, Some, sym, ◌∙◌}
-use Rattle.std.specs.Prelude.{slice_get}
-use Rattle.py_node.specs.declared.raised.Cause.{Cause}
-use Rattle.class_model.specs.Change.{with_bases, is_blamed, caused}
-use Rattle.class_table.specs.Keys.{numbers}
-use Rattle.class_table.specs.Stored.{StoredClass, classes_of}
-use Rattle.class_table.specs.Trial.{bases_under, trial_at}
-use Rattle.class_table.proofs.Trials.{bases-now, some-trial}
-use Rattle.class_table.proofs.Blames.{tried-blamed, tried-spared, if-some, if-none}
+use Rattle.class_table.proofs.Lemmas.{true, false, Some, sym, ◌∙◌, slice_get, Cause, with_bases, is_blamed, caused, numbers, StoredClass, classes_of, bases_under, trial_at, bases-now, some-trial, tried-blamed, tried-spared, if-some, if-none}
+use Rattle.std.proofs.Common.{◌≡◌}
 use Rattle.class_table.proofs.blame.cause_at.Goals as goal
 
 pub returns-in-None-clause-none : goal.returns-in-None-clause-none

@@ -1,13 +1,5 @@
-use Rattle.std.proofs.Common.{◌≡◌, ◌+◌, get_or, Option, Some, sym, ap, subst, ◌∙◌}
-use Rattle.std.specs.Prelude.{slice_get}
-use Rattle.std.proofs.lemmas.Option.{slice_get-get_or}
-use Rattle.class_model.specs.Order.{has}
-use Rattle.class_table.specs.Keys.{numbers}
-use Rattle.class_table.specs.Stored.{StoredClass}
-use Rattle.class_table.specs.declared.blame.Blame.{Blame}
-use Rattle.class_table.specs.declared.descendants.Ranked.{Ranked}
-use Rattle.class_table.specs.Blame.{AreBlame, AreReached}
-use Rattle.class_table.proofs.Blames.{reached-all, reached-skip, reached-more, blame-more}
+use Rattle.class_table.proofs.Lemmas.{get_or, Option, Some, sym, ap, subst, ◌∙◌, slice_get, slice_get-get_or, has, numbers, StoredClass, Blame, Ranked, AreBlame, AreReached, reached-all, reached-skip, reached-more, blame-more}
+use Rattle.std.proofs.Common.{◌≡◌, ◌+◌}
 use Rattle.class_table.proofs.blame.first_blamed.Goals as goal
 use Rattle.class_table.proofs.blame.first_blamed.Goals.{in-None, in-Some}
 

@@ -1,5 +1,4 @@
-use Rattle.class_table.specs.Keys.{numbers}
-use Rattle.class_table.specs.Blame.{AreBlame, AreReached}
+use Rattle.class_table.proofs.Below.{numbers, AreBlame, AreReached}
 use Rattle.class_table.proofs.blame.first_blamed.Given as goal
 
 abbrev pub invariant-loop-next : goal.invariant-loop-next

@@ -1,4 +1,4 @@
-use Rattle.class_table.proofs.Cached.{empty-none, empty-push}
+use Rattle.class_table.proofs.Lemmas.{empty-none, empty-push}
 use Rattle.class_table.proofs.cache.blank_rows.Goals as goal
 
 pub loop-row-init : goal.loop-row-init

@@ -1,4 +1,4 @@
-use Rattle.class_table.specs.Cache.{AreEmpty}
+use Rattle.class_table.proofs.Below.{AreEmpty}
 use Rattle.class_table.proofs.cache.blank_rows.Given as goal
 
 abbrev pub invariant-loop-row : goal.invariant-loop-row

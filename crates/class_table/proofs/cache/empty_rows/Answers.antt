@@ -1,5 +1,4 @@
-use Rattle.std.proofs.Common.{arith}
-use Rattle.class_table.proofs.Cached.{empty-start, empty-next, empty-end}
+use Rattle.class_table.proofs.Lemmas.{arith, empty-start, empty-next, empty-end}
 use Rattle.class_table.proofs.cache.empty_rows.Goals as goal
 
 pub loop-place-init : goal.loop-place-init

@@ -1,9 +1,5 @@
-use Rattle.std.proofs.Common.{◌∷◌, sym, ap, ◌∙◌}
-use Rattle.class_model.specs.Chain.{chain_from}
-use Rattle.class_model.proofs.Chain.{chain-step}
-use Rattle.class_table.specs.Stored.{classes_of}
-use Rattle.class_table.proofs.AsKept.{base-kept}
-use Rattle.class_table.proofs.Chains.{base-there}
+use Rattle.class_table.proofs.Lemmas.{sym, ap, ◌∙◌, chain_from, chain-step, classes_of, base-kept, base-there}
+use Rattle.std.proofs.Common.{◌∷◌}
 use Rattle.class_table.proofs.chain.base_of.Goals as goal
 
 pub returns-clause-there : goal.returns-clause-there

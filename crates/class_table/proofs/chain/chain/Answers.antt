@@ -1,5 +1,4 @@
-use Rattle.class_model.proofs.Chain.{chain-whole}
-use Rattle.class_table.specs.Stored.{classes_of}
+use Rattle.class_table.proofs.Lemmas.{chain-whole, classes_of}
 use Rattle.class_table.proofs.chain.chain.Goals as goal
 
 pub returns-clause-whole : goal.returns-clause-whole

@@ -1,9 +1,5 @@
-use Rattle.std.proofs.Common.{◌≡◌, [], sym, ap, ◌∙◌}
-use Rattle.std.proofs.lemmas.List.{nil_from_length}
-use Rattle.py_node.specs.Attributes.{is_same_name}
-use Rattle.class_model.specs.Collect.{with_values, attrs_of}
-use Rattle.class_table.specs.Stored.{classes_of}
-use Rattle.class_table.specs.Keys.{numbers}
+use Rattle.class_table.proofs.Lemmas.{[], sym, ap, ◌∙◌, nil_from_length, is_same_name, with_values, attrs_of, classes_of, numbers}
+use Rattle.std.proofs.Common.{◌≡◌}
 use Rattle.class_table.proofs.Collected.{along_from, from-nothing, along-step}
 use Rattle.class_table.proofs.collect.attributes_along.Goals as goal
 

@@ -1,8 +1,5 @@
 use Rattle.std.proofs.Common.{◌≡◌}
-use Rattle.py_node.specs.Attributes.{is_same_name}
-use Rattle.class_model.specs.Collect.{attributes_along}
-use Rattle.class_table.specs.Stored.{classes_of}
-use Rattle.class_table.specs.Keys.{numbers}
+use Rattle.class_table.proofs.Below.{is_same_name, attributes_along, classes_of, numbers}
 use Rattle.class_table.proofs.Collected.{along_from}
 use Rattle.class_table.proofs.collect.attributes_along.Given as goal
 

@@ -1,6 +1,5 @@
-use Rattle.std.proofs.Common.{◌+◌, take, Some, sym, subst}
-use Rattle.class_table.specs.Keys.{numbers}
-use Rattle.class_table.specs.Given.{AreGiven}
+use Rattle.class_table.proofs.Lemmas.{take, Some, sym, subst, numbers, AreGiven}
+use Rattle.std.proofs.Common.{◌+◌}
 use Rattle.class_table.proofs.Collected.{given-more}
 use Rattle.class_table.proofs.collect.map_along.Goals as goal
 

@@ -1,6 +1,4 @@
-use Rattle.std.proofs.Common.{take, Some}
-use Rattle.class_table.specs.Keys.{numbers}
-use Rattle.class_table.specs.Given.{AreGiven}
+use Rattle.class_table.proofs.Below.{take, Some, numbers, AreGiven}
 use Rattle.class_table.proofs.collect.map_along.Given as goal
 
 abbrev pub invariant-loop-class : goal.invariant-loop-class

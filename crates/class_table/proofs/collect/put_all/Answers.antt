@@ -1,6 +1,5 @@
-use Rattle.std.proofs.Common.{ap, drop, ◌+◌, ◌∙◌}
-use Rattle.py_node.specs.Attributes.{is_same_name}
-use Rattle.class_model.specs.Collect.{with_values}
+use Rattle.class_table.proofs.Lemmas.{ap, drop, ◌∙◌, is_same_name, with_values}
+use Rattle.std.proofs.Common.{◌+◌}
 use Rattle.class_table.proofs.Collected.{values-at}
 use Rattle.class_table.proofs.collect.put_all.Goals as goal
 

@@ -1,6 +1,5 @@
-use Rattle.std.proofs.Common.{◌≡◌, drop}
-use Rattle.py_node.specs.Attributes.{is_same_name}
-use Rattle.class_model.specs.Collect.{with_values}
+use Rattle.class_table.proofs.Below.{drop, is_same_name, with_values}
+use Rattle.std.proofs.Common.{◌≡◌}
 use Rattle.class_table.proofs.collect.put_all.Given as goal
 
 abbrev pub invariant-loop-i : goal.invariant-loop-i

@@ -1,7 +1,5 @@
-use Rattle.std.proofs.Common.{◌≡◌, ◌+◌, drop}
-use Rattle.class_model.specs.Layout.{members_in}
-use Rattle.class_table.specs.Keys.{numbers}
-use Rattle.class_table.specs.Stored.{classes_of}
+use Rattle.class_table.proofs.Below.{drop, members_in, numbers, classes_of}
+use Rattle.std.proofs.Common.{◌≡◌, ◌+◌}
 use Rattle.class_table.proofs.count.count_along.Given as goal
 
 abbrev pub invariant-loop-class : goal.invariant-loop-class

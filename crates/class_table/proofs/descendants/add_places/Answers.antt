@@ -1,5 +1,4 @@
-use Rattle.class_table.proofs.Along.{held-at}
-use Rattle.class_table.proofs.Descended.{added-next}
+use Rattle.class_table.proofs.Lemmas.{held-at, added-next}
 use Rattle.class_table.proofs.descendants.add_places.Goals as goal
 
 pub place-requires-clause-there : goal.place-requires-clause-there

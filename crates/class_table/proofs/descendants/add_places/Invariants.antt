@@ -1,5 +1,4 @@
-use Rattle.std.proofs.Common.{take}
-use Rattle.class_table.specs.Keys.{numbers}
+use Rattle.class_table.proofs.Below.{take, numbers}
 use Rattle.class_table.specs.Descendants.{AreAdded}
 use Rattle.class_table.proofs.descendants.add_places.Given as goal
 

@@ -1,8 +1,6 @@
-use Rattle.std.proofs.Common.{List, ℕ, ◌≤◌, length, sym, ap, subst, ◌∙◌, arith}
-use Rattle.std.proofs.lemmas.Option.{slice_get_within}
-use Rattle.class_model.specs.Order.{Includes}
+use Rattle.class_table.proofs.Lemmas.{List, ℕ, length, sym, ap, subst, ◌∙◌, arith, slice_get_within, Includes, with_place, Includes-at, none-past, finding-start, finding-more, finding-end, finding-full, sub-there}
+use Rattle.std.proofs.Common.{◌≤◌}
 use Rattle.class_table.specs.Descendants.{AreAdded}
-use Rattle.class_table.proofs.Descended.{with_place, Includes-at, none-past, finding-start, finding-more, finding-end, finding-full, sub-there}
 use Rattle.class_table.proofs.descendants.descendants.Goals as goal
 
 pub loop-index-init : goal.loop-index-init

@@ -1,10 +1,5 @@
-use Rattle.std.proofs.Common.{◌≡◌, ℕ, List, length, get_or, sym, ap, subst, rules, arith}
-use Rattle.std.specs.List.Sorted.{IsNonDecreasingBy}
-use Rattle.std.proofs.lemmas.List.Sorted.{IsNonDecreasingBy-from_sort_by_key}
-use Rattle.std.proofs.lemmas.Option.{slice_get_within, get_or_from_slice_get}
-use Rattle.class_table.specs.Descendants.{AreDescendants}
-use Rattle.class_table.specs.declared.descendants.Ranked.{Ranked}
-use Rattle.class_table.proofs.Descended.{found-few, ranked-is}
+use Rattle.class_table.proofs.Lemmas.{ℕ, List, length, get_or, sym, ap, subst, rules, arith, IsNonDecreasingBy, IsNonDecreasingBy-from_sort_by_key, slice_get_within, get_or_from_slice_get, AreDescendants, Ranked, found-few, ranked-is}
+use Rattle.std.proofs.Common.{◌≡◌}
 use Rattle.class_table.proofs.descendants.in_order.Goals as goal
 
 pub returns-clause-ranked : goal.returns-clause-ranked

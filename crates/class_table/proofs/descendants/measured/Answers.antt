@@ -1,9 +1,5 @@
-use Rattle.std.proofs.Common.{[], ◌∷◌, length, get_or, sym, ap, ◌∙◌, arith}
-use Rattle.std.specs.Prelude.{slice_get}
-use Rattle.std.proofs.lemmas.List.{length-append}
-use Rattle.std.proofs.lemmas.Option.{slice_get-get_or}
-use Rattle.class_table.specs.declared.descendants.Ranked.{Ranked}
-use Rattle.class_table.proofs.Descended.{Includes-in, measured-more}
+use Rattle.class_table.proofs.Lemmas.{[], length, get_or, sym, ap, ◌∙◌, arith, slice_get, length-append, slice_get-get_or, Ranked, Includes-in, measured-more}
+use Rattle.std.proofs.Common.{◌∷◌}
 use Rattle.class_table.proofs.descendants.measured.Goals as goal
 
 pub length_at-requires : goal.length_at-requires

@@ -1,7 +1,5 @@
-use Rattle.std.proofs.Common.{◌≡◌, ℕ, length, Some}
-use Rattle.std.specs.Prelude.{slice_get}
-use Rattle.class_table.specs.Stored.{StoredClass}
-use Rattle.class_table.specs.declared.descendants.Ranked.{Ranked}
+use Rattle.class_table.proofs.Below.{ℕ, length, Some, slice_get, StoredClass, Ranked}
+use Rattle.std.proofs.Common.{◌≡◌}
 use Rattle.class_table.proofs.descendants.measured.Given as goal
 
 abbrev pub invariant-loop-place : goal.invariant-loop-place

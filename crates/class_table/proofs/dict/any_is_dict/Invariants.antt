@@ -1,7 +1,5 @@
-use Rattle.std.proofs.Common.{◌≡◌, drop}
-use Rattle.std.specs.List.{list_any}
-use Rattle.class_model.specs.Dict.{is_dict}
-use Rattle.class_table.specs.Keys.{table_keys}
+use Rattle.class_table.proofs.Below.{drop, list_any, is_dict, table_keys}
+use Rattle.std.proofs.Common.{◌≡◌}
 use Rattle.class_table.proofs.dict.any_is_dict.Given as goal
 
 abbrev pub invariant-loop-name : goal.invariant-loop-name

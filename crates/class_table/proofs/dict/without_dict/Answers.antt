@@ -1,5 +1,4 @@
-use Rattle.std.proofs.Common.{rules}
-use Rattle.std.proofs.lemmas.Fn.{filter_same}
+use Rattle.class_table.proofs.Lemmas.{rules, filter_same}
 use Rattle.class_table.proofs.dict.without_dict.Goals as goal
 
 pub returns : goal.returns

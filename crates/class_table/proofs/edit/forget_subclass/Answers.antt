@@ -1,5 +1,5 @@
-use Rattle.std.proofs.Common.{◌≡◌, ℕ, zero, suc, ◌<◌, List, [], ◌∷◌, length, get_or, set, refl, ap, ◌∙◌, arith}
-use Rattle.class_table.specs.Stored.{StoredClass, class_of, classes_of}
+use Rattle.class_table.proofs.Lemmas.{ℕ, zero, suc, List, [], length, get_or, set, refl, ap, ◌∙◌, arith, StoredClass, class_of, classes_of}
+use Rattle.std.proofs.Common.{◌≡◌, ◌<◌, ◌∷◌}
 use Rattle.class_table.proofs.edit.forget_subclass.Goals as goal
 
 plain-set : (ks : List StoredClass) (at : ℕ) (x y : StoredClass) → at < length ks → x ≡ get_or ks at x → class_of y ≡ class_of x → classes_of (set ks at y) ≡ classes_of ks

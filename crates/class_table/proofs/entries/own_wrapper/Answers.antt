@@ -1,10 +1,4 @@
-use Rattle.std.proofs.Common.{List, map, refl, sym, ap, ◌∙◌, arith}
-use Rattle.py_node.specs.declared.known.Known.{Known}
-use Rattle.class_model.specs.Slot.{is_one_of, wrapped}
-use Rattle.class_table.specs.Keys.{table_keys}
-use Rattle.py_node.specs.declared.refs.PyStrInterned.{PyStrInterned}
-use Rattle.py_node.specs.Attributes.{value_of, is_same_name}
-use Rattle.class_table.proofs.Along.{wrapped-found, wrapped-next, wrapped-end}
+use Rattle.class_table.proofs.Lemmas.{List, map, refl, sym, ap, ◌∙◌, arith, Known, is_one_of, wrapped, table_keys, PyStrInterned, value_of, is_same_name, wrapped-found, wrapped-next, wrapped-end}
 use Rattle.class_table.proofs.entries.own_wrapper.Goals as goal
 
 pub loop-name-init : goal.loop-name-init

@@ -1,5 +1,4 @@
-use Rattle.std.proofs.Common.{sym, ◌∙◌, arith}
-use Rattle.class_table.proofs.Along.{wrapped-along-found, wrapped-along-next}
+use Rattle.class_table.proofs.Lemmas.{sym, ◌∙◌, arith, wrapped-along-found, wrapped-along-next}
 use Rattle.class_table.proofs.entries.wrapper_along.Goals as goal
 
 pub returns-in-Some : goal.returns-in-Some

@@ -1,8 +1,5 @@
-use Rattle.std.proofs.Common.{◌≡◌, drop}
-use Rattle.class_model.specs.Class.{along}
-use Rattle.class_model.specs.Slot.{is_name_of, wrapped}
-use Rattle.class_table.specs.Keys.{numbers, table_keys}
-use Rattle.class_table.specs.Stored.{classes_of}
+use Rattle.class_table.proofs.Below.{drop, along, is_name_of, wrapped, numbers, table_keys, classes_of}
+use Rattle.std.proofs.Common.{◌≡◌}
 use Rattle.class_table.proofs.entries.wrapper_along.Given as goal
 
 abbrev pub invariant-loop-place : goal.invariant-loop-place

@@ -1,7 +1,4 @@
-use Rattle.class_table.specs.Keys.{numbers}
-use Rattle.class_table.specs.Stored.{classes_of}
-use Rattle.class_table.proofs.Along.{held-at}
-use Rattle.class_table.proofs.Pushed.{each-there}
+use Rattle.class_table.proofs.Lemmas.{numbers, classes_of, held-at, each-there}
 use Rattle.class_table.proofs.inherit.best_along.Goals as goal
 
 pub next_best-requires-clause-base : goal.next_best-requires-clause-base

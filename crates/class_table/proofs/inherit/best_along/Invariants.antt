@@ -1,8 +1,6 @@
-use Rattle.std.proofs.Common.{◌≡◌, true, None, IfSome, drop}
-use Rattle.class_model.specs.Class.{is_class}
-use Rattle.class_table.specs.Keys.{numbers, number_of}
-use Rattle.class_table.specs.Stored.{classes_of}
-use Rattle.class_table.specs.Inherit.{best_along}
+use Rattle.class_table.proofs.Below.{true, None, drop, is_class, numbers, classes_of, best_along}
+use Rattle.std.proofs.Common.{◌≡◌, IfSome}
+use Rattle.class_table.specs.Keys.{number_of}
 use Rattle.class_table.proofs.inherit.best_along.Given as goal
 
 abbrev pub invariant-loop-base : goal.invariant-loop-base

@@ -1,6 +1,4 @@
-use Rattle.class_table.specs.Keys.{numbers}
-use Rattle.class_table.specs.Stored.{classes_of}
-use Rattle.class_table.proofs.Bests.{told-err, told-none, told-some}
+use Rattle.class_table.proofs.Lemmas.{numbers, classes_of, told-err, told-none, told-some}
 use Rattle.class_table.proofs.inherit.best_base.Goals as goal
 
 pub returns-in-Err-clause-refused : goal.returns-in-Err-clause-refused

@@ -1,6 +1,4 @@
-use Rattle.std.proofs.Common.{sym}
-use Rattle.class_table.specs.Stored.{classes_of}
-use Rattle.class_table.proofs.Bests.{none-derives}
+use Rattle.class_table.proofs.Lemmas.{sym, classes_of, none-derives}
 use Rattle.class_table.proofs.inherit.derives.Goals as goal
 
 pub returns-in-None : goal.returns-in-None

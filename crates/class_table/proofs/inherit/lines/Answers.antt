@@ -1,13 +1,6 @@
-use Rattle.std.proofs.Common.{◌≡◌, List, map, get_or, Some, sym, ap, ◌∙◌}
-use Rattle.std.specs.Global.{Vec}
-use Rattle.py_node.specs.declared.refs.PyTypeRef.{PyTypeRef}
-use Rattle.class_model.specs.Class.{lin}
-use Rattle.mro_merge.specs.Lists.{rows}
-use Rattle.class_table.specs.Keys.{numbers}
-use Rattle.class_table.specs.Stored.{classes_of}
-use Rattle.class_table.proofs.Along.{held-at}
+use Rattle.class_table.proofs.Lemmas.{List, map, get_or, Some, sym, ap, ◌∙◌, Vec, PyTypeRef, lin, rows, numbers, classes_of, held-at, each-there}
+use Rattle.std.proofs.Common.{◌≡◌}
 use Rattle.class_table.proofs.Collected.{lines-more}
-use Rattle.class_table.proofs.Pushed.{each-there}
 use Rattle.class_table.proofs.inherit.lines.Goals as goal
 
 pub stored_at-requires-clause-there : goal.stored_at-requires-clause-there

@@ -1,8 +1,5 @@
-use Rattle.std.proofs.Common.{◌≡◌, Some, map, take}
-use Rattle.class_model.specs.Class.{lin}
-use Rattle.mro_merge.specs.Lists.{rows}
-use Rattle.class_table.specs.Keys.{numbers}
-use Rattle.class_table.specs.Stored.{classes_of}
+use Rattle.class_table.proofs.Below.{Some, map, take, lin, rows, numbers, classes_of}
+use Rattle.std.proofs.Common.{◌≡◌}
 use Rattle.class_table.proofs.inherit.lines.Given as goal
 
 abbrev pub invariant-loop-base : goal.invariant-loop-base

@@ -1,6 +1,4 @@
-use Rattle.class_table.specs.Stored.{classes_of}
-use Rattle.class_table.proofs.Bests.{found}
-use Rattle.class_table.proofs.Heaps.{only-best}
+use Rattle.class_table.proofs.Lemmas.{classes_of, found, only-best}
 use Rattle.class_table.proofs.inherit.only.Goals as goal
 
 pub returns-in-len1-up : goal.returns-in-len1-up

@@ -1,12 +1,5 @@
-use Rattle.std.proofs.Common.{Ok, Err, Result, ◌≡◌, sym, subst}
-use Rattle.std.specs.Global.{Vec}
-use Rattle.py_node.specs.declared.refs.PyTypeRef.{PyTypeRef}
-use Rattle.mro_merge.specs.Lists.{rows}
-use Rattle.class_table.specs.declared.fault.ClassFault.{ClassFault}
-use Rattle.class_table.specs.Keys.{numbers}
-use Rattle.class_table.specs.Stored.{classes_of}
-use Rattle.class_table.specs.Refused.{refusal, WithMemory, refused_order}
-use Rattle.class_table.proofs.Orders.{lines-of, follows-of, refused-of}
+use Rattle.class_table.proofs.Lemmas.{Ok, Err, Result, sym, subst, Vec, PyTypeRef, rows, ClassFault, numbers, classes_of, refusal, WithMemory, refused_order, lines-of, follows-of, refused-of}
+use Rattle.std.proofs.Common.{◌≡◌}
 use Rattle.class_table.proofs.inherit.rest_of_line.Goals as goal
 
 pub resolve_mro-requires : goal.resolve_mro-requires

@@ -1,4 +1,4 @@
-use Rattle.class_table.proofs.Passed.{sound-passed}
+use Rattle.class_table.proofs.Lemmas.{sound-passed}
 use Rattle.class_table.proofs.laws.bases_that_pass_keep_classes_sound.Goals as goal
 
 pub returns : goal.returns

@@ -1,4 +1,4 @@
-use Rattle.class_table.proofs.KeptLayouts.{layout-passed}
+use Rattle.class_table.proofs.Lemmas.{layout-passed}
 use Rattle.class_table.proofs.laws.bases_that_pass_keep_layouts.Goals as goal
 
 pub returns : goal.returns

@@ -1,9 +1,5 @@
-use Rattle.std.proofs.Common.{◌≡◌, sym, ap, ◌∙◌}
-use Rattle.class_model.specs.Order.{has}
-use Rattle.class_model.specs.Class.{lin, is_sub, is_along}
-use Rattle.class_model.proofs.Tests.{Decides-has}
-use Rattle.class_model.proofs.Best.{sub-itself, sub-trans}
-use Rattle.class_model.proofs.Numbers.{some-of}
+use Rattle.class_table.proofs.Lemmas.{sym, ap, ◌∙◌, has, lin, is_sub, is_along, Decides-has, sub-itself, sub-trans, some-of}
+use Rattle.std.proofs.Common.{◌≡◌}
 use Rattle.class_table.proofs.laws.deriving_is_an_order.Goals as goal
 
 pub returns-clause-itself : goal.returns-clause-itself

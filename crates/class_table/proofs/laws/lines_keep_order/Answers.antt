@@ -1,5 +1,4 @@
-use Rattle.class_model.proofs.Rule.{lin-distinct}
-use Rattle.class_model.proofs.Lines.{keeps-bases, keeps-members}
+use Rattle.class_table.proofs.Lemmas.{lin-distinct, keeps-bases, keeps-members}
 use Rattle.class_table.proofs.laws.lines_keep_order.Goals as goal
 
 pub returns-clause-distinct : goal.returns-clause-distinct

@@ -1,4 +1,5 @@
-use Rattle.class_model.proofs.Failing.{failing-is, failing-none}
+use Rattle.class_table.proofs.Lemmas.{failing-is}
+use Rattle.class_model.proofs.Failing.{failing-none}
 use Rattle.class_table.proofs.laws.new_bases_fail.Goals as goal
 
 pub returns-clause-fail : goal.returns-clause-fail

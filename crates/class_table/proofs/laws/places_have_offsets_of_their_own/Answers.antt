@@ -1,4 +1,4 @@
-use Rattle.class_model.proofs.PlaceOffsets.{place-has, offset-below, offset-apart, place-offset, offset-place, offset-inherited}
+use Rattle.class_table.proofs.Lemmas.{place-has, offset-below, offset-apart, place-offset, offset-place, offset-inherited}
 use Rattle.class_table.proofs.laws.places_have_offsets_of_their_own.Goals as goal
 
 pub returns-clause-there : goal.returns-clause-there

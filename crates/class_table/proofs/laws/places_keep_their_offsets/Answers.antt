@@ -1,4 +1,4 @@
-use Rattle.class_model.proofs.Offsets.{place-keeps}
+use Rattle.class_table.proofs.Lemmas.{place-keeps}
 use Rattle.class_table.proofs.laws.places_keep_their_offsets.Goals as goal
 
 pub returns : goal.returns

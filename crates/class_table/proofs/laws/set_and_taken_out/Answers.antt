@@ -1,4 +1,4 @@
-use Rattle.class_table.proofs.Edited.{set-back}
+use Rattle.class_table.proofs.Lemmas.{set-back}
 use Rattle.class_table.proofs.laws.set_and_taken_out.Goals as goal
 
 pub returns : goal.returns

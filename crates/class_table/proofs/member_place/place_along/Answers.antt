@@ -1,9 +1,5 @@
-use Rattle.std.proofs.Common.{◌≡◌, ℕ, suc, ◌+◌, ◌-◌, ◌<◌, List, ◌∷◌, Some, length, get_or, ap, sym, ◌∙◌, arith, drop, drop-cons, slice_index_or}
-use Rattle.py_node.specs.declared.refs.PyTypeRef.{PyTypeRef}
-use Rattle.class_model.specs.Layout.{layout_along, members_in, place_along}
-use Rattle.class_table.specs.Keys.{numbers}
-use Rattle.class_table.specs.Stored.{classes_of}
-use Rattle.class_table.proofs.Counts.{layout-none, layout-below, layout-own}
+use Rattle.class_table.proofs.Lemmas.{ℕ, suc, List, Some, length, get_or, ap, sym, ◌∙◌, arith, drop, drop-cons, PyTypeRef, layout_along, members_in, place_along, numbers, classes_of, layout-none, layout-below, layout-own}
+use Rattle.std.proofs.Common.{◌≡◌, ◌+◌, ◌-◌, ◌<◌, ◌∷◌, slice_index_or}
 use Rattle.class_table.proofs.member_place.place_along.Goals as goal
 
 -- the rest of a line begins with its class

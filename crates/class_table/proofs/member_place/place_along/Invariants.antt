@@ -1,7 +1,5 @@
-use Rattle.std.proofs.Common.{◌≡◌, drop}
-use Rattle.class_model.specs.Layout.{layout_along, members_in, place_along}
-use Rattle.class_table.specs.Keys.{numbers}
-use Rattle.class_table.specs.Stored.{classes_of}
+use Rattle.class_table.proofs.Below.{drop, layout_along, members_in, place_along, numbers, classes_of}
+use Rattle.std.proofs.Common.{◌≡◌}
 use Rattle.class_table.proofs.member_place.place_along.Given as goal
 
 -- so many places are still before those that were passed, and the offset stands for one of them, if for any

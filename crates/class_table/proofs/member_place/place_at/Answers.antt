@@ -1,9 +1,5 @@
-use Rattle.std.proofs.Common.{◌≡◌, Some, sym, ap, ◌∙◌}
-use Rattle.class_model.specs.Class.{lin}
-use Rattle.class_model.specs.Layout.{layout_along, members_in, place_along, place_at, place_count}
-use Rattle.std.specs.Prelude.{option_and_then}
-use Rattle.class_table.specs.Stored.{classes_of}
-use Rattle.class_table.proofs.Counts.{count-line}
+use Rattle.class_table.proofs.Lemmas.{Some, sym, ap, ◌∙◌, lin, layout_along, members_in, place_along, place_at, place_count, option_and_then, classes_of, count-line}
+use Rattle.std.proofs.Common.{◌≡◌}
 use Rattle.class_table.proofs.member_place.place_at.Goals as goal
 
 pub place_along-requires-clause-count : goal.place_along-requires-clause-count

@@ -1,8 +1,5 @@
-use Rattle.std.proofs.Common.{◌≡◌, ◌<◌, ◌+◌, inl, inr, Some, refl, sym, subst, arith}
-use Rattle.std.specs.Str.{IsCharBoundary}
-use Rattle.std.specs.Prelude.{slice_index_or}
-use Rattle.std.proofs.lemmas.Str.Pattern.{NoCharPasses-char, rfind_char}
-use Rattle.class_table.proofs.LastParts.{last-part}
+use Rattle.class_table.proofs.Lemmas.{inl, inr, Some, refl, sym, subst, arith, IsCharBoundary, slice_index_or, NoCharPasses-char, rfind_char, last-part}
+use Rattle.std.proofs.Common.{◌≡◌, ◌<◌, ◌+◌}
 use Rattle.class_table.proofs.name.last_part.Goals as goal
 
 pub returns-in-None-clause-part : goal.returns-in-None-clause-part

@@ -1,9 +1,4 @@
-use Rattle.std.proofs.Common.{sym, ap, arith}
-use Rattle.std.specs.Prelude.{option_and_then}
-use Rattle.py_node.specs.BuiltIns.{all_built_ins}
-use Rattle.py_node.specs.OwnAttrs.{own_attrs}
-use Rattle.class_model.specs.BuiltIn.{entry_among, natives_of}
-use Rattle.class_table.proofs.StartParts.{built-count, past}
+use Rattle.class_table.proofs.Lemmas.{sym, ap, arith, option_and_then, all_built_ins, own_attrs, entry_among, natives_of, built-count, past}
 use Rattle.class_table.proofs.natives.built_in_entry.Goals as goal
 
 pub returns-then-class-ge-BUILT_IN_COUNT : goal.returns-then-class-ge-BUILT_IN_COUNT

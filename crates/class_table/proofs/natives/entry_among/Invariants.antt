@@ -1,5 +1,5 @@
-use Rattle.std.proofs.Common.{◌≡◌, drop}
-use Rattle.class_model.specs.BuiltIn.{entry_among}
+use Rattle.class_table.proofs.Below.{drop, entry_among}
+use Rattle.std.proofs.Common.{◌≡◌}
 use Rattle.class_table.proofs.natives.entry_among.Given as goal
 
 abbrev pub invariant-loop-attr : goal.invariant-loop-attr

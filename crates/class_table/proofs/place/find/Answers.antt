@@ -1,5 +1,4 @@
-use Rattle.std.proofs.Common.{sym}
-use Rattle.class_table.proofs.Found.{read-class}
+use Rattle.class_table.proofs.Lemmas.{sym, read-class}
 use Rattle.class_table.proofs.place.find.Goals as goal
 
 pub returns-in-Some-clause-class : goal.returns-in-Some-clause-class

@@ -1,9 +1,5 @@
-use Rattle.std.proofs.Common.{◌≡◌, ◌<◌, Some, length, sym, ap, ◌∙◌, arith}
-use Rattle.std.specs.Prelude.{slice_get}
-use Rattle.std.proofs.lemmas.Option.{slice_get-get_or}
-use Rattle.class_model.specs.Class.{class_at}
-use Rattle.class_table.specs.Stored.{classes_of}
-use Rattle.class_table.proofs.Found.{place-class}
+use Rattle.class_table.proofs.Lemmas.{Some, length, sym, ap, ◌∙◌, arith, slice_get, slice_get-get_or, class_at, classes_of, place-class}
+use Rattle.std.proofs.Common.{◌≡◌, ◌<◌}
 use Rattle.class_table.proofs.place.find_near.Goals as goal
 
 pub returns-then-number-class-clause-class : goal.returns-then-number-class-clause-class

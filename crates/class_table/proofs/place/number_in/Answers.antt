@@ -1,7 +1,4 @@
-use Rattle.std.proofs.Common.{Some, sym, ap, ◌∙◌}
-use Rattle.class_model.specs.Class.{is_class}
-use Rattle.class_table.specs.Stored.{classes_of}
-use Rattle.class_table.proofs.Found.{place-number}
+use Rattle.class_table.proofs.Lemmas.{Some, sym, ap, ◌∙◌, is_class, classes_of, place-number}
 use Rattle.class_table.proofs.place.number_in.Goals as goal
 
 pub returns-clause-number : goal.returns-clause-number

@@ -1,4 +1,5 @@
-use Rattle.class_table.proofs.Found.{number-within, read-number, read-at, read-class}
+use Rattle.class_table.proofs.Lemmas.{number-within, read-number, read-class}
+use Rattle.class_table.proofs.Found.{read-at}
 use Rattle.class_table.proofs.place.stored_at.Goals as goal
 
 pub returns-clause-class : goal.returns-clause-class

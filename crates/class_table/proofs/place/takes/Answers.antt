@@ -1,7 +1,5 @@
-use Rattle.std.proofs.Common.{◌≡◌, ◌-◌, suc, length, get_or, sym, ap, ◌∙◌, arith}
-use Rattle.std.specs.Prelude.{nat_lt}
-use Rattle.std.proofs.lemmas.Bool.{eqb-false}
-use Rattle.class_table.proofs.Found.{limit-place}
+use Rattle.class_table.proofs.Lemmas.{suc, length, get_or, sym, ap, ◌∙◌, arith, nat_lt, eqb-false, limit-place}
+use Rattle.std.proofs.Common.{◌≡◌, ◌-◌}
 use Rattle.class_table.proofs.place.takes.Goals as goal
 
 pub returns-else-is_empty : goal.returns-else-is_empty

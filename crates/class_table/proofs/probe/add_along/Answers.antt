@@ -1,11 +1,5 @@
-use Rattle.std.proofs.Common.{◌*◌, [], length, ◌+◌, List, take, get_or, refl, subst, arith}
-use Rattle.class_model.specs.Class.{along}
-use Rattle.class_table.specs.Keys.{numbers}
-use Rattle.class_table.specs.Stored.{classes_of}
-use Rattle.class_table.specs.Probe.{is_called, AreAdded}
-use Rattle.py_node.specs.declared.refs.PyTypeRef.{PyTypeRef}
-use Rattle.class_table.proofs.Counted.{rise-none, rise-then, rise-within}
-use Rattle.class_table.proofs.Sought.{added-none, added-class, take-more, take-whole}
+use Rattle.class_table.proofs.Lemmas.{[], length, List, take, get_or, refl, subst, arith, along, numbers, classes_of, is_called, AreAdded, PyTypeRef, rise-none, rise-then, rise-within, added-none, added-class, take-more, take-whole}
+use Rattle.std.proofs.Common.{◌*◌, ◌+◌}
 use Rattle.class_table.proofs.probe.add_along.Goals as goal
 
 pub loop-place-init : goal.loop-place-init

@@ -1,9 +1,5 @@
-use Rattle.std.proofs.Common.{◌*◌, take}
-use Rattle.class_model.specs.Class.{along}
-use Rattle.class_table.specs.Keys.{numbers}
-use Rattle.class_table.specs.Stored.{classes_of}
-use Rattle.class_table.specs.Probe.{is_called, AreAdded}
-use Rattle.class_table.specs.Steps.{RiseBy}
+use Rattle.class_table.proofs.Below.{take, along, numbers, classes_of, is_called, AreAdded, RiseBy}
+use Rattle.std.proofs.Common.{◌*◌}
 use Rattle.class_table.proofs.probe.add_along.Given as goal
 
 abbrev pub invariant-loop-place : goal.invariant-loop-place

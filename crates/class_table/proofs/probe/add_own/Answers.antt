@@ -1,6 +1,4 @@
-use Rattle.py_node.specs.Attributes.{value_of}
-use Rattle.class_table.specs.Probe.{is_called}
-use Rattle.class_table.proofs.Sought.{added-asked}
+use Rattle.class_table.proofs.Lemmas.{value_of, is_called, added-asked}
 use Rattle.class_table.proofs.probe.add_own.Goals as goal
 
 pub returns-else-len-lt-SPECIAL_NAMES-clause-added :

@@ -1,12 +1,5 @@
-use Rattle.std.proofs.Common.{◌≡◌, ◌-◌, ℕ, Some, ◌+◌, inl, inr, refl, sym, ap, subst, ◌∙◌, arith}
-use Rattle.std.specs.Prelude.{slice_get}
-use Rattle.py_node.specs.Attributes.{value_of}
-use Rattle.class_model.specs.Class.{or_else}
-use Rattle.class_table.specs.Probe.{is_called, value_at}
-use Rattle.std.specs.Prelude.{option_and_then}
-use Rattle.std.proofs.lemmas.Bool.{cases_eq}
-use Rattle.class_table.proofs.Counted.{rise-none, rise-then, rise-within, rise-probe}
-use Rattle.class_table.proofs.Sought.{away, wider}
+use Rattle.class_table.proofs.Lemmas.{ℕ, Some, inl, inr, refl, sym, ap, subst, ◌∙◌, arith, slice_get, value_of, or_else, is_called, value_at, option_and_then, cases_eq, rise-none, rise-then, rise-within, rise-probe, away, wider}
+use Rattle.std.proofs.Common.{◌≡◌, ◌-◌, ◌+◌}
 use Rattle.class_table.proofs.probe.ask_some.Goals as goal
 
 pub loop-number-init : goal.loop-number-init

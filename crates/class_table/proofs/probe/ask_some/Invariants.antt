@@ -1,9 +1,5 @@
-use Rattle.std.proofs.Common.{◌≡◌, ◌<◌, ◌≤◌, ◌-◌, ◌⊎◌, ℕ, length, Some}
-use Rattle.std.specs.Prelude.{slice_get}
-use Rattle.py_node.specs.Attributes.{value_of}
-use Rattle.class_model.specs.Class.{or_else}
-use Rattle.class_table.specs.Probe.{is_called, value_at}
-use Rattle.class_table.specs.Steps.{RiseBy}
+use Rattle.class_table.proofs.Below.{ℕ, length, Some, slice_get, value_of, or_else, is_called, value_at, RiseBy}
+use Rattle.std.proofs.Common.{◌≡◌, ◌<◌, ◌≤◌, ◌-◌, ◌⊎◌}
 use Rattle.class_table.proofs.probe.ask_some.Given as goal
 
 abbrev pub invariant-loop-number : goal.invariant-loop-number

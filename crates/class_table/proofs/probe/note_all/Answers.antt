@@ -1,10 +1,5 @@
-use Rattle.std.proofs.Common.{◌≤◌, [], length, ◌+◌, List, take, refl, subst, arith}
-use Rattle.py_node.specs.declared.refs.PyObjectRef.{PyObjectRef}
-use Rattle.py_node.specs.Attributes.{value_of}
-use Rattle.class_table.specs.Probe.{is_called, AreAdded}
-use Rattle.py_node.specs.declared.refs.PyStrInterned.{PyStrInterned}
-use Rattle.class_table.proofs.Counted.{rise-none, rise-then, rise-within, rise-probe}
-use Rattle.class_table.proofs.Sought.{added-none, added-attr, take-next, take-whole}
+use Rattle.class_table.proofs.Lemmas.{[], length, List, take, refl, subst, arith, PyObjectRef, value_of, is_called, AreAdded, PyStrInterned, rise-none, rise-then, rise-within, rise-probe, added-none, added-attr, take-next, take-whole}
+use Rattle.std.proofs.Common.{◌≤◌, ◌+◌}
 use Rattle.class_table.proofs.probe.note_all.Goals as goal
 
 pub loop-i-init : goal.loop-i-init

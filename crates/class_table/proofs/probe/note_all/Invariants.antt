@@ -1,7 +1,4 @@
-use Rattle.std.proofs.Common.{take}
-use Rattle.py_node.specs.Attributes.{value_of}
-use Rattle.class_table.specs.Probe.{is_called, AreAdded}
-use Rattle.class_table.specs.Steps.{RiseBy}
+use Rattle.class_table.proofs.Below.{take, value_of, is_called, AreAdded, RiseBy}
 use Rattle.class_table.proofs.probe.note_all.Given as goal
 
 abbrev pub invariant-loop-i : goal.invariant-loop-i

@@ -1,7 +1,4 @@
-use Rattle.std.proofs.Common.{List, sym, ap, ◌∙◌, arith}
-use Rattle.py_node.specs.declared.known.Known.{Known}
-use Rattle.class_table.specs.Probe.{slot_by, value_at}
-use Rattle.class_table.proofs.Probed.{slot-by_found, slot-by_next, slot-by_end}
+use Rattle.class_table.proofs.Lemmas.{List, sym, ap, ◌∙◌, arith, Known, slot_by, value_at, slot-by_found, slot-by_next, slot-by_end}
 use Rattle.class_table.proofs.probe.slot_by.Goals as goal
 
 pub loop-name-init : goal.loop-name-init

@@ -1,6 +1,5 @@
-use Rattle.std.proofs.Common.{◌≡◌, drop}
-use Rattle.py_node.specs.Slots.{names_of}
-use Rattle.class_table.specs.Probe.{slot_by}
+use Rattle.class_table.proofs.Below.{drop, names_of, slot_by}
+use Rattle.std.proofs.Common.{◌≡◌}
 use Rattle.class_table.proofs.probe.slot_by.Given as goal
 
 abbrev pub invariant-loop-name : goal.invariant-loop-name

@@ -1,14 +1,5 @@
-use Rattle.std.proofs.Common.{◌≡◌, ◌*◌, ◌+◌, ℕ, None, List, length, get_or, set, replicate, refl, sym, ap, subst, ◌∙◌, arith}
-use Rattle.std.proofs.lemmas.List.{get_or_default, length-map}
-use Rattle.py_node.specs.declared.refs.PyTypeRef.{PyTypeRef}
-use Rattle.py_node.specs.declared.refs.PyStrInterned.{PyStrInterned}
-use Rattle.py_node.specs.Attributes.{is_same_name}
-use Rattle.class_model.specs.Class.{class_at, own_of, along}
-use Rattle.class_table.specs.Stored.{StoredClass, classes_of}
-use Rattle.class_table.specs.Probe.{is_called, AreAdded, AreFound}
-use Rattle.class_table.proofs.Counted.{rise-then, rise-within}
-use Rattle.class_table.proofs.Probed.{line-some}
-use Rattle.class_table.proofs.Sought.{nothing, found-all}
+use Rattle.class_table.proofs.Lemmas.{ℕ, None, List, length, get_or, set, replicate, refl, sym, ap, subst, ◌∙◌, arith, get_or_default, length-map, PyTypeRef, PyStrInterned, is_same_name, class_at, own_of, along, StoredClass, classes_of, is_called, AreAdded, AreFound, rise-then, rise-within, line-some, nothing, found-all}
+use Rattle.std.proofs.Common.{◌≡◌, ◌*◌, ◌+◌}
 use Rattle.class_table.proofs.probe.values_for.Goals as goal
 
 pub returns-clause-found : goal.returns-clause-found

@@ -1,13 +1,5 @@
-use Rattle.std.proofs.Common.{◌≡◌, ℕ, List, get_or, set, sym, ap, subst, ◌∙◌}
-use Rattle.std.proofs.lemmas.List.{get_or_default}
-use Rattle.py_node.specs.Attributes.{with_value, is_same_name}
-use Rattle.class_model.specs.Change.{with_class_attr}
-use Rattle.class_table.specs.Stored.{StoredClass, classes_of}
-use Rattle.class_table.specs.Coherent.{HasLines}
-use Rattle.class_table.specs.Patch.{AreNear, IsRefreshed}
-use Rattle.class_table.proofs.Found.{element, number-within, read-number}
-use Rattle.class_table.proofs.Edited.{setting}
-use Rattle.class_table.proofs.Changed.{lines-changed, near-changed, plain-final, coherent-final}
+use Rattle.class_table.proofs.Lemmas.{ℕ, List, get_or, set, sym, ap, subst, ◌∙◌, get_or_default, with_value, is_same_name, with_class_attr, StoredClass, classes_of, HasLines, AreNear, IsRefreshed, element, number-within, read-number, setting, lines-changed, near-changed, plain-final, coherent-final}
+use Rattle.std.proofs.Common.{◌≡◌}
 use Rattle.class_table.proofs.put.put.Goals as goal
 
 pub set_attr-requires : goal.set_attr-requires

@@ -1,9 +1,5 @@
-use Rattle.std.proofs.Common.{◌≡◌, drop}
-use Rattle.class_model.specs.Slot.{entry}
-use Rattle.class_model.specs.BuiltIn.{natives_of}
-use Rattle.class_table.specs.Keys.{table_keys}
-use Rattle.class_table.specs.Stored.{classes_of}
-use Rattle.class_table.specs.Table.{any_filled}
+use Rattle.class_table.proofs.Below.{drop, entry, natives_of, table_keys, classes_of, any_filled}
+use Rattle.std.proofs.Common.{◌≡◌}
 use Rattle.class_table.proofs.read.fills_any.Given as goal
 
 abbrev pub invariant-loop-slot : goal.invariant-loop-slot

@@ -1,4 +1,4 @@
-use Rattle.class_table.proofs.Along.{held-at}
+use Rattle.class_table.proofs.Lemmas.{held-at}
 use Rattle.class_table.proofs.read.nearest.Goals as goal
 
 pub own_entry-requires-clause-there : goal.own_entry-requires-clause-there

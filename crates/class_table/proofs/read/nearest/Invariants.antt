@@ -1,9 +1,5 @@
-use Rattle.std.proofs.Common.{◌≡◌, drop}
-use Rattle.class_model.specs.Class.{first_along}
-use Rattle.class_model.specs.Slot.{entry}
-use Rattle.class_model.specs.BuiltIn.{natives_of}
-use Rattle.class_table.specs.Keys.{numbers, table_keys}
-use Rattle.class_table.specs.Stored.{classes_of}
+use Rattle.class_table.proofs.Below.{drop, first_along, entry, natives_of, numbers, table_keys, classes_of}
+use Rattle.std.proofs.Common.{◌≡◌}
 use Rattle.class_table.proofs.read.nearest.Given as goal
 
 abbrev pub invariant-loop-class : goal.invariant-loop-class

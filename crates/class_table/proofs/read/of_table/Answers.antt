@@ -1,4 +1,4 @@
-use Rattle.class_table.proofs.Along.{held-at}
+use Rattle.class_table.proofs.Lemmas.{held-at}
 use Rattle.class_table.proofs.read.of_table.Goals as goal
 
 pub has_table-requires-clause-there : goal.has_table-requires-clause-there

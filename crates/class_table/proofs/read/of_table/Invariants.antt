@@ -1,9 +1,5 @@
-use Rattle.std.proofs.Common.{◌≡◌, drop}
-use Rattle.class_model.specs.Slot.{entry, read_along}
-use Rattle.class_model.specs.BuiltIn.{natives_of}
-use Rattle.class_table.specs.Keys.{numbers, table_keys}
-use Rattle.class_table.specs.Stored.{classes_of}
-use Rattle.class_table.specs.Table.{table_sort}
+use Rattle.class_table.proofs.Below.{drop, entry, read_along, natives_of, numbers, table_keys, classes_of, table_sort}
+use Rattle.std.proofs.Common.{◌≡◌}
 use Rattle.class_table.proofs.read.of_table.Given as goal
 
 abbrev pub invariant-loop-class : goal.invariant-loop-class

@@ -1,5 +1,4 @@
-use Rattle.std.proofs.Common.{◌∙◌}
-use Rattle.class_table.proofs.AsKept.{entry-kept}
+use Rattle.class_table.proofs.Lemmas.{◌∙◌, entry-kept}
 use Rattle.class_table.proofs.read.own_entry.Goals as goal
 
 pub returns : goal.returns

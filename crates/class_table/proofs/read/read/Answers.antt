@@ -1,6 +1,4 @@
-use Rattle.std.proofs.Common.{◌∙◌}
-use Rattle.class_table.specs.Keys.{numbers}
-use Rattle.class_table.proofs.AsKept.{line-within, slot-kept}
+use Rattle.class_table.proofs.Lemmas.{◌∙◌, numbers, line-within, slot-kept}
 use Rattle.class_table.proofs.read.read.Goals as goal
 
 pub read_along-requires-clause-inside : goal.read_along-requires-clause-inside

@@ -1,8 +1,5 @@
-use Rattle.std.proofs.Common.{◌≡◌, drop}
-use Rattle.py_node.specs.Attributes.{is_same_name}
-use Rattle.class_model.specs.Class.{along}
-use Rattle.class_table.specs.Keys.{numbers}
-use Rattle.class_table.specs.Stored.{classes_of}
+use Rattle.class_table.proofs.Below.{drop, is_same_name, along, numbers, classes_of}
+use Rattle.std.proofs.Common.{◌≡◌}
 use Rattle.class_table.proofs.read.value_along.Given as goal
 
 abbrev pub invariant-loop-place : goal.invariant-loop-place

@@ -1,7 +1,4 @@
-use Rattle.class_table.specs.Keys.{numbers}
-use Rattle.class_table.specs.Stored.{classes_of}
-use Rattle.class_table.proofs.Along.{held-at}
-use Rattle.class_table.proofs.Pushed.{each-there}
+use Rattle.class_table.proofs.Lemmas.{numbers, classes_of, held-at, each-there}
 use Rattle.class_table.proofs.rebase.any_derives.Goals as goal
 
 pub stored_at-requires-clause-there : goal.stored_at-requires-clause-there

@@ -1,7 +1,5 @@
-use Rattle.std.proofs.Common.{◌≡◌, drop}
-use Rattle.class_table.specs.Keys.{numbers}
-use Rattle.class_table.specs.Stored.{classes_of}
-use Rattle.class_table.specs.Rebase.{any_derives}
+use Rattle.class_table.proofs.Below.{drop, numbers, classes_of, any_derives}
+use Rattle.std.proofs.Common.{◌≡◌}
 use Rattle.class_table.proofs.rebase.any_derives.Given as goal
 
 abbrev pub invariant-loop-base : goal.invariant-loop-base

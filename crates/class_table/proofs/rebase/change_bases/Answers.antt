@@ -1,21 +1,6 @@
-use Rattle.std.proofs.Common.{length, ◌≡◌, ◌*◌, ℕ, List, get_or, set, refl, sym, ap, subst, ◌∙◌, arith}
-use Rattle.std.proofs.lemmas.List.{get_or_default}
-use Rattle.std.proofs.lemmas.List.{length-set}
-use Rattle.class_model.specs.Class.{is_heap}
-use Rattle.class_model.specs.Change.{with_bases}
-use Rattle.class_table.specs.Keys.{numbers}
-use Rattle.class_table.specs.Stored.{StoredClass, class_of, classes_of}
-use Rattle.class_table.specs.Affected.{AreAffected}
-use Rattle.class_table.specs.Renewed.{AreRenewed, AreSwapped}
-use Rattle.class_table.specs.Lines.{AreLinesOf}
-use Rattle.class_table.specs.Descendants.{descendants, AreRanked}
-use Rattle.class_table.specs.Settle.{is_ranked, line_places, places_kept}
-use Rattle.class_table.specs.declared.descendants.Ranked.{Ranked}
-use Rattle.class_table.proofs.Found.{element, number-within}
-use Rattle.class_table.proofs.Counted.{rise-within}
-use Rattle.class_table.proofs.Settles.{settled-plain}
-use Rattle.class_table.proofs.Lined.{lines-of-edited}
-use Rattle.class_table.proofs.Renewing.{lines-mid, full-mid, inside-mid, away-mid, places-mid, plain-final, coherent-final}
+use Rattle.class_table.proofs.Lemmas.{length, ℕ, List, get_or, set, refl, sym, ap, subst, ◌∙◌, arith, get_or_default, length-set, is_heap, with_bases, numbers, StoredClass, class_of, classes_of, AreAffected, AreRenewed, AreSwapped, AreLinesOf, descendants, AreRanked, is_ranked, line_places, places_kept, Ranked, element, number-within, rise-within, settled-plain, lines-of-edited, lines-mid, full-mid, inside-mid, away-mid, places-mid}
+use Rattle.std.proofs.Common.{◌≡◌, ◌*◌}
+use Rattle.class_table.proofs.Renewing.{plain-final, coherent-final}
 use Rattle.class_table.proofs.rebase.change_bases.Goals as goal
 
 pub place-at-requires-clause-ascending : goal.place-at-requires-clause-ascending

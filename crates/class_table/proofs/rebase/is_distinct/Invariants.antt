@@ -1,6 +1,5 @@
-use Rattle.std.proofs.Common.{◌≡◌, drop}
-use Rattle.class_model.specs.Order.{is_distinct}
-use Rattle.class_table.specs.Keys.{numbers}
+use Rattle.class_table.proofs.Below.{drop, is_distinct, numbers}
+use Rattle.std.proofs.Common.{◌≡◌}
 use Rattle.class_table.proofs.rebase.is_distinct.Given as goal
 
 abbrev pub invariant-loop-i : goal.invariant-loop-i

@@ -1,6 +1,4 @@
-use Rattle.class_table.specs.Keys.{numbers}
-use Rattle.class_table.specs.Stored.{classes_of}
-use Rattle.class_table.proofs.Passed.{early-passed}
+use Rattle.class_table.proofs.Lemmas.{numbers, classes_of, early-passed}
 use Rattle.class_table.proofs.rebase.plan.Goals as goal
 
 pub trials-requires-clause-distinct : goal.trials-requires-clause-distinct

@@ -1,11 +1,5 @@
-use Rattle.std.proofs.Common.{refl, ◌≡◌, ℕ, List, Some, None, sym, ap, ◌∙◌}
-use Rattle.std.specs.Prelude.{is_some, IsSome, option_map}
-use Rattle.py_node.specs.declared.refs.PyStrInterned.{PyStrInterned}
-use Rattle.class_model.specs.Class.{Classes}
-use Rattle.class_model.specs.Change.{failing}
-use Rattle.class_table.specs.Keys.{numbers}
-use Rattle.class_table.specs.Rebase.{Refusal, refused_change, refused_rebase}
-use Rattle.class_table.proofs.Passed.{either-none, map-none}
+use Rattle.class_table.proofs.Lemmas.{refl, ℕ, List, Some, None, sym, ap, ◌∙◌, is_some, IsSome, option_map, PyStrInterned, Classes, failing, numbers, Refusal, refused_change, refused_rebase, either-none, map-none}
+use Rattle.std.proofs.Common.{◌≡◌}
 use Rattle.class_table.proofs.rebase.rebase.Goals as goal
 
 -- a change that is not refused passed the tests that need no order

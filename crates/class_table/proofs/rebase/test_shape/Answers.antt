@@ -1,8 +1,4 @@
-use Rattle.class_model.specs.Layout.{solid}
-use Rattle.class_model.proofs.Solid.{first_best-held}
-use Rattle.class_table.specs.Keys.{numbers}
-use Rattle.class_table.specs.Stored.{classes_of}
-use Rattle.class_table.proofs.Pushed.{each-there}
+use Rattle.class_table.proofs.Lemmas.{solid, first_best-held, numbers, classes_of, each-there}
 use Rattle.class_table.proofs.rebase.test_shape.Goals as goal
 
 pub inherited-solid-requires-clause-there : goal.inherited-solid-requires-clause-there

@@ -1,4 +1,4 @@
-use Rattle.class_table.specs.Patch.{NoneNamed}
+use Rattle.class_table.proofs.Below.{NoneNamed}
 use Rattle.class_table.proofs.refresh.first_named.Given as goal
 
 abbrev pub invariant-loop-place : goal.invariant-loop-place

@@ -1,8 +1,5 @@
-use Rattle.std.proofs.Common.{◌≡◌, drop, map}
-use Rattle.py_node.specs.Attributes.{is_same_name}
-use Rattle.py_node.specs.Slots.{names_of}
-use Rattle.class_model.specs.Slot.{is_one_of, is_name_of}
-use Rattle.class_table.specs.Keys.{table_keys}
+use Rattle.class_table.proofs.Below.{drop, map, is_same_name, names_of, is_one_of, is_name_of, table_keys}
+use Rattle.std.proofs.Common.{◌≡◌}
 use Rattle.class_table.proofs.refresh.is_name_of.Given as goal
 
 abbrev pub invariant-loop-other : goal.invariant-loop-other

@@ -1,5 +1,5 @@
 use Rattle.std.proofs.Common.{◌≤◌}
-use Rattle.class_table.specs.Patch.{NoneNamed}
+use Rattle.class_table.proofs.Below.{NoneNamed}
 use Rattle.class_table.proofs.refresh.past_named.Given as goal
 
 abbrev pub invariant-loop-place : goal.invariant-loop-place

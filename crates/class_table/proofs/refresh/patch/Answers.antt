@@ -1,10 +1,5 @@
-use Rattle.std.proofs.Common.{◌≡◌, ℕ, ◌+◌, ◌-◌, ◌≤◌, List, get_or, set, sym, ap, subst, ◌∙◌, arith}
-use Rattle.std.proofs.lemmas.List.{get_or_default}
-use Rattle.class_table.specs.Stored.{StoredClass, classes_of}
-use Rattle.class_table.specs.Coherent.{HasLines}
-use Rattle.class_table.proofs.Found.{element}
-use Rattle.class_table.proofs.Refreshed.{part, part-start, part-end, part-lines, part-then, part-else, part-skip}
-use Rattle.class_table.proofs.Written.{written-inside}
+use Rattle.class_table.proofs.Lemmas.{ℕ, List, get_or, set, sym, ap, subst, ◌∙◌, arith, get_or_default, StoredClass, classes_of, HasLines, element, part, part-start, part-end, part-lines, part-then, part-else, part-skip, written-inside}
+use Rattle.std.proofs.Common.{◌≡◌, ◌+◌, ◌-◌, ◌≤◌}
 use Rattle.class_table.proofs.refresh.patch.Goals as goal
 use Rattle.class_table.proofs.refresh.patch.Goals.{then-is_name_of, else-is_name_of}
 

@@ -1,11 +1,5 @@
-use Rattle.std.proofs.Common.{◌≡◌, ◌<◌, List, set, length, cond, Some, refl, sym, ap, subst, ◌∙◌, arith}
-use Rattle.std.proofs.lemmas.Bool.{lt-ltb, le-ltb}
-use Rattle.std.proofs.lemmas.Option.{slice_get_within}
-use Rattle.std.proofs.lemmas.List.{get_or_default, length-set}
-use Rattle.class_table.specs.Stored.{StoredClass, classes_of}
-use Rattle.class_table.specs.Coherent.{HasLines}
-use Rattle.class_table.specs.Patch.{refreshed_one, settled, IsNear}
-use Rattle.class_table.proofs.Refreshed.{plain-set, lines-set, refreshed-then, refreshed-else, near-now}
+use Rattle.class_table.proofs.Lemmas.{List, set, length, cond, Some, refl, sym, ap, subst, ◌∙◌, arith, lt-ltb, le-ltb, slice_get_within, get_or_default, length-set, StoredClass, classes_of, HasLines, refreshed_one, settled, IsNear, plain-set, lines-set, refreshed-then, refreshed-else, near-now}
+use Rattle.std.proofs.Common.{◌≡◌, ◌<◌}
 use Rattle.class_table.proofs.refresh.patch_all.Goals as goal
 use Rattle.class_table.proofs.refresh.patch_all.Goals.{then-derives, else-derives}
 

@@ -1,8 +1,5 @@
-use Rattle.std.proofs.Common.{◌≡◌, ℕ, cond, length, ltb, Some}
-use Rattle.std.specs.Prelude.{slice_get}
-use Rattle.class_table.specs.Stored.{StoredClass, classes_of}
-use Rattle.class_table.specs.Coherent.{HasLines}
-use Rattle.class_table.specs.Patch.{refreshed_one}
+use Rattle.class_table.proofs.Below.{ℕ, cond, length, ltb, Some, slice_get, StoredClass, classes_of, HasLines, refreshed_one}
+use Rattle.std.proofs.Common.{◌≡◌}
 use Rattle.class_table.proofs.refresh.patch_all.Given as goal
 
 abbrev pub invariant-loop-place : goal.invariant-loop-place

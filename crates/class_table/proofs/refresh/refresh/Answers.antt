@@ -1,4 +1,4 @@
-use Rattle.class_table.proofs.Refreshed.{refreshed-none}
+use Rattle.class_table.proofs.Lemmas.{refreshed-none}
 use Rattle.class_table.proofs.refresh.refresh.Goals as goal
 
 pub returns-else-name-lt-SPECIAL_NAMES : goal.returns-else-name-lt-SPECIAL_NAMES

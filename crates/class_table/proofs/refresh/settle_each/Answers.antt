@@ -1,10 +1,5 @@
-use Rattle.std.proofs.Common.{◌≡◌, ◌+◌, List, get_or, set, sym, subst, ◌∙◌}
-use Rattle.std.proofs.lemmas.List.{get_or_default}
-use Rattle.class_table.specs.Stored.{StoredClass, classes_of}
-use Rattle.class_table.specs.Coherent.{HasLines}
-use Rattle.class_table.proofs.Found.{element}
-use Rattle.class_table.proofs.Refreshed.{part, part-start, part-end, part-lines, part-then}
-use Rattle.class_table.proofs.Written.{written-inside}
+use Rattle.class_table.proofs.Lemmas.{List, get_or, set, sym, subst, ◌∙◌, get_or_default, StoredClass, classes_of, HasLines, element, part, part-start, part-end, part-lines, part-then, written-inside}
+use Rattle.std.proofs.Common.{◌≡◌, ◌+◌}
 use Rattle.class_table.proofs.refresh.settle_each.Goals as goal
 
 pub loop-place-init : goal.loop-place-init

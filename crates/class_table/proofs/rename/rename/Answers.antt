@@ -1,11 +1,5 @@
-use Rattle.std.proofs.Common.{◌≡◌, ℕ, get_or, set, sym, ap, subst, ◌∙◌}
-use Rattle.std.proofs.lemmas.List.{get_or_default}
-use Rattle.py_node.specs.Tree.{Text}
-use Rattle.class_model.specs.Change.{with_class_name}
-use Rattle.class_table.specs.Stored.{classes_of}
-use Rattle.class_table.specs.Coherent.{IsCoherent}
-use Rattle.class_table.proofs.Found.{element, number-within, read-number}
-use Rattle.class_table.proofs.Named.{plain-named, coherent-named}
+use Rattle.class_table.proofs.Lemmas.{ℕ, get_or, set, sym, ap, subst, ◌∙◌, get_or_default, Text, with_class_name, classes_of, IsCoherent, element, number-within, read-number, plain-named, coherent-named}
+use Rattle.std.proofs.Common.{◌≡◌}
 use Rattle.class_table.proofs.rename.rename.Goals as goal
 
 pub returns-clause-coherent : goal.returns-clause-coherent

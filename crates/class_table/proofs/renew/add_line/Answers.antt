@@ -1,9 +1,5 @@
-use Rattle.std.proofs.Common.{◌≡◌, ◌<◌, ◌+◌, ◌++◌, ◌∷◌, [], Some, Result, Ok, Err, OnOk, length, ap, sym, ◌∙◌, arith}
-use Rattle.std.specs.Prelude.{slice_get}
-use Rattle.std.proofs.lemmas.Option.{slice_get_within, slice_get-get_or}
-use Rattle.class_table.specs.Keys.{numbers}
-use Rattle.class_table.specs.Lines.{AreLinesTo}
-use Rattle.class_table.proofs.Lined.{lines-made, lines-kept}
+use Rattle.class_table.proofs.Lemmas.{[], Some, Result, Ok, Err, OnOk, length, ap, sym, ◌∙◌, arith, slice_get, slice_get_within, slice_get-get_or, numbers, AreLinesTo, lines-made, lines-kept}
+use Rattle.std.proofs.Common.{◌≡◌, ◌<◌, ◌+◌, ◌++◌, ◌∷◌}
 use Rattle.class_table.proofs.renew.add_line.Goals as goal
 
 -- what follows where a call had memory

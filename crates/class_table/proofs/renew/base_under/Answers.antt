@@ -1,10 +1,5 @@
-use Rattle.std.proofs.Common.{◌≡◌, sym, ap, ◌∙◌}
-use Rattle.class_model.specs.Layout.{base}
-use Rattle.class_model.specs.Change.{with_bases}
-use Rattle.class_table.specs.Keys.{numbers}
-use Rattle.class_table.specs.Stored.{StoredClass, classes_of}
-use Rattle.class_table.proofs.Trials.{read-is}
-use Rattle.class_table.proofs.Passed.{base-away_passed, base-here_passed}
+use Rattle.class_table.proofs.Lemmas.{sym, ap, ◌∙◌, base, with_bases, numbers, StoredClass, classes_of, read-is, base-away_passed, base-here_passed}
+use Rattle.std.proofs.Common.{◌≡◌}
 use Rattle.class_table.proofs.renew.base_under.Goals as goal
 
 pub returns-then-number-change : goal.returns-then-number-change

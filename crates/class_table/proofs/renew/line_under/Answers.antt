@@ -1,8 +1,4 @@
-use Rattle.std.proofs.Common.{true≢false, sym, ap, ◌∙◌}
-use Rattle.std.specs.Prelude.{is_some}
-use Rattle.class_table.specs.Keys.{numbers}
-use Rattle.class_table.specs.Stored.{classes_of}
-use Rattle.class_table.proofs.Passed.{order-passed}
+use Rattle.class_table.proofs.Lemmas.{true≢false, sym, ap, ◌∙◌, is_some, numbers, classes_of, order-passed}
 use Rattle.class_table.proofs.renew.line_under.Goals as goal
 
 pub unreachable-requires : goal.unreachable-requires

@@ -1,5 +1,4 @@
-use Rattle.std.proofs.Common.{arith}
-use Rattle.class_table.proofs.Lined.{lines-start, lines-end}
+use Rattle.class_table.proofs.Lemmas.{arith, lines-start, lines-end}
 use Rattle.class_table.proofs.renew.lines_under.Goals as goal
 
 pub loop-at-init : goal.loop-at-init

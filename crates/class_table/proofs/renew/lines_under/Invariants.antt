@@ -1,4 +1,4 @@
-use Rattle.class_table.specs.Lines.{AreLinesTo}
+use Rattle.class_table.proofs.Below.{AreLinesTo}
 use Rattle.class_table.proofs.renew.lines_under.Given as goal
 
 abbrev pub invariant-loop-at : goal.invariant-loop-at

@@ -1,6 +1,5 @@
-use Rattle.std.proofs.Common.{◌≡◌, ◌++◌, drop, filter}
-use Rattle.std.specs.Prelude.{nat_lt}
-use Rattle.class_table.specs.Keys.{numbers}
+use Rattle.class_table.proofs.Below.{drop, filter, nat_lt, numbers}
+use Rattle.std.proofs.Common.{◌≡◌, ◌++◌}
 use Rattle.class_table.proofs.renew.push_below.Given as goal
 
 abbrev pub invariant-loop-next : goal.invariant-loop-next

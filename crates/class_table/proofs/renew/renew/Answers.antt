@@ -1,10 +1,5 @@
-use Rattle.std.proofs.Common.{◌≡◌, Some, refl, sym, ap, ◌∙◌, arith}
-use Rattle.class_model.specs.Layout.{members_in}
-use Rattle.class_model.specs.Change.{with_bases}
-use Rattle.class_model.proofs.Kept.{member_count-kept}
-use Rattle.class_table.specs.Keys.{numbers}
-use Rattle.class_table.specs.Stored.{classes_of}
-use Rattle.class_table.proofs.Counts.{count-line, members-agree}
+use Rattle.class_table.proofs.Lemmas.{Some, refl, sym, ap, ◌∙◌, arith, members_in, with_bases, member_count-kept, numbers, classes_of, count-line, members-agree}
+use Rattle.std.proofs.Common.{◌≡◌}
 use Rattle.class_table.proofs.renew.renew.Goals as goal
 
 pub returns : goal.returns

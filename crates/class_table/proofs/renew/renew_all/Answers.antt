@@ -1,14 +1,5 @@
-use Rattle.std.proofs.Common.{◌≡◌, ℕ, [], ◌∷◌, length, get_or, Some, inl, inr, sym, ap, subst, ◌∙◌, arith}
-use Rattle.std.specs.Prelude.{slice_get}
-use Rattle.std.proofs.lemmas.List.{length-append}
-use Rattle.std.proofs.lemmas.Option.{slice_get-get_or}
-use Rattle.class_model.specs.Change.{with_bases}
-use Rattle.class_table.specs.declared.renew.Renewed.{Renewed}
-use Rattle.class_table.specs.Keys.{numbers}
-use Rattle.class_table.specs.Stored.{classes_of}
-use Rattle.class_table.specs.Renewed.{IsRenewed}
-use Rattle.class_table.proofs.Places.{get-push_cases}
-use Rattle.class_table.proofs.Descended.{Includes-in}
+use Rattle.class_table.proofs.Lemmas.{ℕ, [], length, get_or, Some, inl, inr, sym, ap, subst, ◌∙◌, arith, slice_get, length-append, slice_get-get_or, with_bases, Renewed, numbers, classes_of, IsRenewed, get-push_cases, Includes-in}
+use Rattle.std.proofs.Common.{◌≡◌, ◌∷◌}
 use Rattle.class_table.proofs.renew.renew_all.Goals as goal
 
 pub renew_at-requires-clause-inside : goal.renew_at-requires-clause-inside

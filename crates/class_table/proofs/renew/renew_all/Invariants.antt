@@ -1,10 +1,5 @@
-use Rattle.std.proofs.Common.{◌≡◌, ℕ, length, Some}
-use Rattle.std.specs.Prelude.{slice_get}
-use Rattle.class_model.specs.Change.{with_bases}
-use Rattle.class_table.specs.declared.renew.Renewed.{Renewed}
-use Rattle.class_table.specs.Keys.{numbers}
-use Rattle.class_table.specs.Stored.{StoredClass, classes_of}
-use Rattle.class_table.specs.Renewed.{IsRenewed}
+use Rattle.class_table.proofs.Below.{ℕ, length, Some, slice_get, with_bases, Renewed, numbers, StoredClass, classes_of, IsRenewed}
+use Rattle.std.proofs.Common.{◌≡◌}
 use Rattle.class_table.proofs.renew.renew_all.Given as goal
 
 abbrev pub invariant-loop-place : goal.invariant-loop-place

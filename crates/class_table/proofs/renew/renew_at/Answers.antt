@@ -1,10 +1,4 @@
-use Rattle.std.proofs.Common.{ap, ◌∙◌}
-use Rattle.class_model.specs.Class.{is_class}
-use Rattle.class_model.specs.Layout.{base}
-use Rattle.class_model.specs.Change.{with_bases}
-use Rattle.class_table.specs.Keys.{numbers}
-use Rattle.class_table.specs.Stored.{classes_of}
-use Rattle.class_table.proofs.Trials.{read-at, is-there}
+use Rattle.class_table.proofs.Lemmas.{ap, ◌∙◌, is_class, base, with_bases, numbers, classes_of, read-at, is-there}
 use Rattle.class_table.proofs.renew.renew_at.Goals as goal
 
 pub line_under-line-requires-clause-class : goal.line_under-line-requires-clause-class

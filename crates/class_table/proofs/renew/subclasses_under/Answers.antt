@@ -1,9 +1,5 @@
-use Rattle.std.proofs.Common.{cond, List, ℕ, [], ◌∷◌, ◌++◌, filter, sym, ap, ◌∙◌}
-use Rattle.std.specs.Prelude.{nat_lt}
-use Rattle.class_model.specs.Order.{has}
-use Rattle.class_table.specs.Keys.{numbers}
-use Rattle.class_table.proofs.AsKept.{subclasses-kept}
-use Rattle.class_table.proofs.Listed.{listed, joined}
+use Rattle.class_table.proofs.Lemmas.{cond, List, ℕ, [], filter, sym, ap, ◌∙◌, nat_lt, has, numbers, subclasses-kept, listed, joined}
+use Rattle.std.proofs.Common.{◌∷◌, ◌++◌}
 use Rattle.class_table.proofs.renew.subclasses_under.Goals as goal
 
 pub returns : goal.returns

@@ -1,11 +1,5 @@
-use Rattle.std.proofs.Common.{◌≡◌, ◌+◌, ◌<◌, ℕ, List, length, get_or, set, sym, subst, arith}
-use Rattle.std.proofs.lemmas.List.{get_or_default}
-use Rattle.std.proofs.lemmas.Option.{slice_get-get_or}
-use Rattle.class_table.specs.Stored.{StoredClass}
-use Rattle.class_table.specs.Renewed.{renewed_but_line}
-use Rattle.class_table.proofs.Descended.{Includes-in}
-use Rattle.class_table.proofs.Found.{element}
-use Rattle.class_table.proofs.Swapped.{Swapping, swapping-line, but-line, swapping-start, swapping-next, swapping-end}
+use Rattle.class_table.proofs.Lemmas.{ℕ, List, length, get_or, set, sym, subst, arith, get_or_default, slice_get-get_or, StoredClass, renewed_but_line, Includes-in, element, Swapping, swapping-line, but-line, swapping-start, swapping-next, swapping-end}
+use Rattle.std.proofs.Common.{◌≡◌, ◌+◌, ◌<◌}
 use Rattle.class_table.proofs.renew.swap_all.Goals as goal
 
 pub loop-index-init : goal.loop-index-init

@@ -1,8 +1,4 @@
-use Rattle.std.proofs.Common.{List, length, ap, sym, subst, ◌∙◌, arith}
-use Rattle.std.specs.Prelude.{slice_get}
-use Rattle.class_table.specs.Stored.{StoredClass}
-use Rattle.class_table.specs.Renewed.{AreSwapped}
-use Rattle.class_table.proofs.Lined.{with-lines-length, lined-line, swapped-lined}
+use Rattle.class_table.proofs.Lemmas.{List, length, ap, sym, subst, ◌∙◌, arith, slice_get, StoredClass, AreSwapped, with-lines-length, lined-line, swapped-lined}
 use Rattle.class_table.proofs.renew.swap_in.Goals as goal
 
 pub reline-requires : goal.reline-requires

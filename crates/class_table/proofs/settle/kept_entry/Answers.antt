@@ -1,5 +1,4 @@
-use Rattle.std.proofs.Common.{sym, ◌∙◌}
-use Rattle.class_table.proofs.Settles.{kept-heap}
+use Rattle.class_table.proofs.Lemmas.{sym, ◌∙◌, kept-heap}
 use Rattle.class_table.proofs.settle.kept_entry.Goals as goal
 
 pub returns-in-Some : goal.returns-in-Some

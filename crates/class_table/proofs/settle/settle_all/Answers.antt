@@ -1,8 +1,4 @@
-use Rattle.std.proofs.Common.{refl, arith}
-use Rattle.class_model.specs.Class.{is_heap}
-use Rattle.class_table.specs.Stored.{class_of}
-use Rattle.class_table.specs.Settle.{is_heap_ranked}
-use Rattle.class_table.proofs.Settles.{settled-plain, settled-lines, settled-full, heaps-settled, settled-both}
+use Rattle.class_table.proofs.Lemmas.{refl, arith, is_heap, class_of, is_heap_ranked, settled-plain, settled-lines, settled-full, heaps-settled, settled-both}
 use Rattle.class_table.proofs.settle.settle_all.Goals as goal
 
 pub settle_statics-requires-clause-lines : goal.settle_statics-requires-clause-lines

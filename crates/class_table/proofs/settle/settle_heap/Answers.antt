@@ -1,13 +1,5 @@
-use Rattle.std.proofs.Common.{◌≡◌, ◌+◌, List, get_or, set, sym, subst, ◌∙◌}
-use Rattle.std.proofs.lemmas.List.{get_or_default}
-use Rattle.std.proofs.lemmas.Option.{slice_get-get_or}
-use Rattle.class_table.specs.Stored.{StoredClass, classes_of}
-use Rattle.class_table.specs.Coherent.{HasLines}
-use Rattle.class_table.proofs.Found.{element}
-use Rattle.class_table.proofs.Refreshed.{part, part-start, part-end, part-lines}
-use Rattle.class_table.proofs.Probed.{slot-found}
-use Rattle.class_table.proofs.Settles.{heap-entry-is, part-written}
-use Rattle.class_table.proofs.Written.{written-inside}
+use Rattle.class_table.proofs.Lemmas.{List, get_or, set, sym, subst, ◌∙◌, get_or_default, slice_get-get_or, StoredClass, classes_of, HasLines, element, part, part-start, part-end, part-lines, slot-found, heap-entry-is, part-written, written-inside}
+use Rattle.std.proofs.Common.{◌≡◌, ◌+◌}
 use Rattle.class_table.proofs.settle.settle_heap.Goals as goal
 
 pub loop-place-init : goal.loop-place-init

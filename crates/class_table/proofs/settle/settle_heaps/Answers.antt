@@ -1,15 +1,5 @@
-use Rattle.std.proofs.Common.{◌≡◌, ◌+◌, ◌*◌, ◌<◌, ◌++◌, ◌∷◌, [], List, length, get_or, take, Some, refl, sym, subst, ◌∙◌, arith}
-use Rattle.std.specs.Prelude.{slice_get}
-use Rattle.std.proofs.lemmas.List.{take_more, take_all}
-use Rattle.std.proofs.lemmas.Option.{slice_get-get_or}
-use Rattle.class_model.specs.Class.{is_heap}
-use Rattle.class_table.specs.Stored.{StoredClass, class_of}
-use Rattle.class_table.specs.Settle.{AreSettled, is_heap_ranked, places_kept}
-use Rattle.class_table.specs.Steps.{Counts, RiseBy}
-use Rattle.class_table.specs.declared.descendants.Ranked.{Ranked}
-use Rattle.class_table.proofs.Found.{element}
-use Rattle.class_table.proofs.Counted.{rise-none, rise-then, rise-within}
-use Rattle.class_table.proofs.Settles.{settled-start, settled-plain, settled-skip, settled-more, settled-lines, settled-full, line-settled, kind-settled, places-more}
+use Rattle.class_table.proofs.Lemmas.{[], List, length, get_or, take, Some, refl, sym, subst, ◌∙◌, arith, slice_get, take_more, take_all, slice_get-get_or, is_heap, StoredClass, class_of, AreSettled, is_heap_ranked, places_kept, Counts, RiseBy, Ranked, element, rise-none, rise-then, rise-within, settled-start, settled-plain, settled-skip, settled-more, settled-lines, settled-full, line-settled, kind-settled, places-more}
+use Rattle.std.proofs.Common.{◌≡◌, ◌+◌, ◌*◌, ◌<◌, ◌++◌, ◌∷◌}
 use Rattle.class_table.proofs.settle.settle_heaps.Goals as goal
 use Rattle.class_table.proofs.settle.settle_heaps.Goals.{then-is_heap_at, else-is_heap_at}
 

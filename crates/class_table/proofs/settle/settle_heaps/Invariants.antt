@@ -1,6 +1,5 @@
-use Rattle.std.proofs.Common.{◌*◌, take}
-use Rattle.class_table.specs.Settle.{AreSettled, is_heap_ranked, places_kept}
-use Rattle.class_table.specs.Steps.{RiseBy}
+use Rattle.class_table.proofs.Below.{take, AreSettled, is_heap_ranked, places_kept, RiseBy}
+use Rattle.std.proofs.Common.{◌*◌}
 use Rattle.class_table.proofs.settle.settle_heaps.Given as goal
 
 abbrev pub invariant-loop-next : goal.invariant-loop-next

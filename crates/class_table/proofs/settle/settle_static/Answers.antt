@@ -1,14 +1,5 @@
-use Rattle.std.proofs.Common.{◌≡◌, ◌+◌, List, Option, get_or, set, sym, ap, subst, ◌∙◌}
-use Rattle.std.proofs.lemmas.List.{get_or_default}
-use Rattle.py_node.specs.declared.entry.SlotEntry.{SlotEntry}
-use Rattle.py_node.specs.Slots.{place_of}
-use Rattle.class_table.specs.Stored.{StoredClass, classes_of}
-use Rattle.class_table.specs.Coherent.{HasLines}
-use Rattle.class_table.specs.Settle.{AreHeapsSettled}
-use Rattle.class_table.proofs.Found.{element}
-use Rattle.class_table.proofs.Refreshed.{part, part-start, part-end, part-lines, part-then}
-use Rattle.class_table.proofs.Settles.{part-heaps}
-use Rattle.class_table.proofs.Written.{written-inside}
+use Rattle.class_table.proofs.Lemmas.{List, Option, get_or, set, sym, ap, subst, ◌∙◌, get_or_default, SlotEntry, place_of, StoredClass, classes_of, HasLines, AreHeapsSettled, element, part, part-start, part-end, part-lines, part-then, part-heaps, written-inside}
+use Rattle.std.proofs.Common.{◌≡◌, ◌+◌}
 use Rattle.class_table.proofs.settle.settle_static.Goals as goal
 
 pub loop-place-init : goal.loop-place-init

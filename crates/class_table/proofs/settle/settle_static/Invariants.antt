@@ -1,7 +1,5 @@
-use Rattle.std.proofs.Common.{◌≡◌, get_or, set}
-use Rattle.class_table.specs.Stored.{StoredClass, classes_of}
-use Rattle.class_table.specs.Coherent.{HasLines}
-use Rattle.class_table.specs.Settle.{AreHeapsSettled}
+use Rattle.class_table.proofs.Below.{get_or, set, StoredClass, classes_of, HasLines, AreHeapsSettled}
+use Rattle.std.proofs.Common.{◌≡◌}
 use Rattle.class_table.proofs.Refreshed.{part}
 use Rattle.class_table.proofs.settle.settle_static.Given as goal
 

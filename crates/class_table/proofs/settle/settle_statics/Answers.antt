@@ -1,13 +1,5 @@
-use Rattle.std.proofs.Common.{◌≡◌, ◌+◌, ◌<◌, ◌++◌, ◌∷◌, [], List, length, get_or, take, Some, not, refl, sym, ap, subst, ◌∙◌, arith}
-use Rattle.std.specs.Prelude.{slice_get}
-use Rattle.std.proofs.lemmas.List.{take_more, take_all}
-use Rattle.std.proofs.lemmas.Option.{slice_get-get_or}
-use Rattle.class_model.specs.Class.{is_heap}
-use Rattle.class_table.specs.Stored.{StoredClass, class_of}
-use Rattle.class_table.specs.Settle.{AreSettled, is_static_ranked}
-use Rattle.class_table.specs.declared.descendants.Ranked.{Ranked}
-use Rattle.class_table.proofs.Found.{element}
-use Rattle.class_table.proofs.Settles.{settled-start, settled-plain, settled-skip, settled-more, settled-lines, settled-full, kind-settled, heaps-keep}
+use Rattle.class_table.proofs.Lemmas.{[], List, length, get_or, take, Some, not, refl, sym, ap, subst, ◌∙◌, arith, slice_get, take_more, take_all, slice_get-get_or, is_heap, StoredClass, class_of, AreSettled, is_static_ranked, Ranked, element, settled-start, settled-plain, settled-skip, settled-more, settled-lines, settled-full, kind-settled, heaps-keep}
+use Rattle.std.proofs.Common.{◌≡◌, ◌+◌, ◌<◌, ◌++◌, ◌∷◌}
 use Rattle.class_table.proofs.settle.settle_statics.Goals as goal
 use Rattle.class_table.proofs.settle.settle_statics.Goals.{then-not-is_heap_at, else-not-is_heap_at}
 

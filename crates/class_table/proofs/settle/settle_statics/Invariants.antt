@@ -1,5 +1,4 @@
-use Rattle.std.proofs.Common.{take}
-use Rattle.class_table.specs.Settle.{AreSettled, is_static_ranked}
+use Rattle.class_table.proofs.Below.{take, AreSettled, is_static_ranked}
 use Rattle.class_table.proofs.settle.settle_statics.Given as goal
 
 abbrev pub invariant-loop-next : goal.invariant-loop-next

@@ -1,14 +1,6 @@
-use Rattle.std.proofs.Common.{◌≡◌, Some, sym, ap, ◌∙◌}
-use Rattle.std.specs.Prelude.{slice_get, List, ℕ}
-use Rattle.std.proofs.lemmas.List.{get_or_default}
-use Rattle.std.proofs.lemmas.Option.{slice_get-get_or}
-use Rattle.class_model.specs.Class.{first_along}
-use Rattle.class_model.specs.Slot.{entry, given_entry}
-use Rattle.class_model.specs.BuiltIn.{natives_of}
-use Rattle.class_table.specs.Keys.{table_keys}
-use Rattle.class_table.specs.Stored.{StoredClass, class_of, classes_of}
-use Rattle.class_table.proofs.Along.{entry-inherited, entry-given}
-use Rattle.class_table.proofs.Found.{place-class}
+use Rattle.class_table.proofs.Lemmas.{Some, sym, ap, ◌∙◌, slice_get, get_or_default, slice_get-get_or, first_along, entry, given_entry, natives_of, table_keys, StoredClass, class_of, classes_of, entry-inherited, entry-given, place-class}
+use Rattle.std.proofs.Common.{◌≡◌}
+use Rattle.std.specs.Prelude.{List, ℕ}
 use Rattle.class_table.proofs.settle.static_entry.Goals as goal
 
 pub returns-then-is_inherited : goal.returns-then-is_inherited

@@ -1,4 +1,4 @@
-use Rattle.class_table.proofs.StartParts.{known-distinct}
+use Rattle.class_table.proofs.Lemmas.{known-distinct}
 use Rattle.class_table.proofs.start.known_names.Goals as goal
 
 pub table_of-requires : goal.table_of-requires

@@ -1,6 +1,4 @@
-use Rattle.std.proofs.Common.{add-one, []}
-use Rattle.py_node.specs.declared.known.Known.TheVariants.{Add}
-use Rattle.class_table.proofs.StartParts.{map-step, map-end, next-new}
+use Rattle.class_table.proofs.Lemmas.{add-one, [], Add, map-step, map-end, next-new}
 use Rattle.class_table.proofs.start.table_of.Goals as goal
 
 pub loop-row-preserved : goal.loop-row-preserved

@@ -1,4 +1,5 @@
-use Rattle.std.proofs.Common.{◌≡◌, map, take}
+use Rattle.class_table.proofs.Below.{map, take}
+use Rattle.std.proofs.Common.{◌≡◌}
 use Rattle.class_table.proofs.start.table_of.Given as goal
 
 abbrev pub invariant-loop-row : goal.invariant-loop-row

@@ -1,6 +1,5 @@
-use Rattle.std.proofs.Common.{◌≡◌, drop}
-use Rattle.class_model.specs.Order.{has}
-use Rattle.class_table.specs.Keys.{numbers}
+use Rattle.class_table.proofs.Below.{drop, has, numbers}
+use Rattle.std.proofs.Common.{◌≡◌}
 use Rattle.class_table.proofs.stored.has.Given as goal
 
 abbrev pub invariant-loop-other : goal.invariant-loop-other

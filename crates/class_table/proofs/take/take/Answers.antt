@@ -1,17 +1,5 @@
-use Rattle.std.proofs.Common.{◌≡◌, ℕ, Bool, true, false, List, Option, Some, get_or, set, sym, ap, subst, ◌∙◌}
-use Rattle.std.proofs.lemmas.List.{get_or_default}
-use Rattle.std.specs.Prelude.{is_some}
-use Rattle.py_node.specs.declared.refs.PyStrInterned.{PyStrInterned}
-use Rattle.py_node.specs.Attributes.{value_of, without_key, is_same_name}
-use Rattle.class_model.specs.Class.{Class, class_at, own_of}
-use Rattle.class_model.specs.Numbers.{is_ascending}
-use Rattle.class_model.specs.Change.{without_class_attr}
-use Rattle.class_table.specs.Stored.{StoredClass, number_at, classes_of}
-use Rattle.class_table.specs.Coherent.{HasLines, IsCoherent}
-use Rattle.class_table.specs.Patch.{AreNear, IsRefreshed}
-use Rattle.class_table.proofs.Found.{element, number-within, read-number, read-class}
-use Rattle.class_table.proofs.Edited.{taking}
-use Rattle.class_table.proofs.Changed.{lines-changed, near-changed, plain-changed, plain-final, coherent-final, untaken}
+use Rattle.class_table.proofs.Lemmas.{ℕ, Bool, true, false, List, Option, Some, get_or, set, sym, ap, subst, ◌∙◌, get_or_default, is_some, PyStrInterned, value_of, without_key, is_same_name, Class, class_at, own_of, is_ascending, without_class_attr, StoredClass, number_at, classes_of, HasLines, IsCoherent, AreNear, IsRefreshed, element, number-within, read-number, read-class, taking, lines-changed, near-changed, plain-changed, plain-final, coherent-final, untaken}
+use Rattle.std.proofs.Common.{◌≡◌}
 use Rattle.class_table.proofs.take.take.Goals as goal
 
 pub refresh-requires : goal.refresh-requires

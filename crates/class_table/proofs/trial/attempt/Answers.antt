@@ -1,11 +1,4 @@
-use Rattle.std.proofs.Common.{ℕ, List, Some, sym, ap, subst, ◌∙◌}
-use Rattle.class_model.specs.Order.{Distinct, Includes}
-use Rattle.class_model.specs.Class.{bases_of}
-use Rattle.class_model.specs.Change.{with_bases}
-use Rattle.class_table.specs.Keys.{numbers}
-use Rattle.class_table.specs.Stored.{StoredClass, classes_of}
-use Rattle.class_table.specs.Trial.{IsTrial, IsWithout}
-use Rattle.class_table.proofs.Trials.{read-is, read-at, bases-now, distinct-now, there-now, if-ok}
+use Rattle.class_table.proofs.Lemmas.{ℕ, List, Some, sym, ap, subst, ◌∙◌, Distinct, Includes, bases_of, with_bases, numbers, StoredClass, classes_of, IsTrial, IsWithout, read-is, read-at, bases-now, distinct-now, there-now, if-ok}
 use Rattle.class_table.proofs.trial.attempt.Goals as goal
 
 pub lines_of-requires-clause-there : goal.lines_of-requires-clause-there

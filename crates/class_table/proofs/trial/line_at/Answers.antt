@@ -1,10 +1,5 @@
-use Rattle.std.proofs.Common.{◌≡◌, false, true, Some, sym, ap, ◌∙◌}
-use Rattle.class_model.specs.Order.{has}
-use Rattle.class_model.specs.Change.{with_bases}
-use Rattle.class_table.specs.Keys.{numbers}
-use Rattle.class_table.specs.Stored.{StoredClass, classes_of}
-use Rattle.class_table.specs.Trial.{trial_at}
-use Rattle.class_table.proofs.Trials.{kept-away, line-of_trial, some-trial, read-is}
+use Rattle.class_table.proofs.Lemmas.{false, true, Some, sym, ap, ◌∙◌, has, with_bases, numbers, StoredClass, classes_of, trial_at, kept-away, line-of_trial, some-trial, read-is}
+use Rattle.std.proofs.Common.{◌≡◌}
 use Rattle.class_table.proofs.trial.line_at.Goals as goal
 
 pub returns-then-not-derives : goal.returns-then-not-derives

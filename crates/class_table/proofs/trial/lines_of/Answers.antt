@@ -1,13 +1,4 @@
-use Rattle.std.proofs.Common.{List, map, Some, sym, ap, ◌∙◌}
-use Rattle.std.specs.Global.{Vec}
-use Rattle.py_node.specs.declared.refs.PyTypeRef.{PyTypeRef}
-use Rattle.mro_merge.specs.Lists.{rows}
-use Rattle.class_table.specs.Keys.{numbers}
-use Rattle.class_model.specs.Class.{lin}
-use Rattle.class_model.specs.Change.{with_bases}
-use Rattle.class_table.specs.Stored.{classes_of}
-use Rattle.class_table.proofs.Trials.{none-among}
-use Rattle.class_table.proofs.Along.{held-at}
+use Rattle.class_table.proofs.Lemmas.{List, map, Some, sym, ap, ◌∙◌, Vec, PyTypeRef, rows, numbers, lin, with_bases, classes_of, none-among, held-at}
 use Rattle.class_table.proofs.Collected.{lines-more}
 use Rattle.class_table.proofs.trial.lines_of.Goals as goal
 

@@ -1,9 +1,5 @@
-use Rattle.std.proofs.Common.{◌≡◌, Some, map, take}
-use Rattle.class_model.specs.Class.{lin}
-use Rattle.class_model.specs.Change.{with_bases}
-use Rattle.mro_merge.specs.Lists.{rows}
-use Rattle.class_table.specs.Keys.{numbers}
-use Rattle.class_table.specs.Stored.{classes_of}
+use Rattle.class_table.proofs.Below.{Some, map, take, lin, with_bases, rows, numbers, classes_of}
+use Rattle.std.proofs.Common.{◌≡◌}
 use Rattle.class_table.proofs.trial.lines_of.Given as goal
 
 abbrev pub invariant-loop-base : goal.invariant-loop-base

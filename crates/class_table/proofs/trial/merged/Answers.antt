@@ -1,12 +1,6 @@
-use Rattle.std.proofs.Common.{◌∷◌, Some, refl, sym, ap, ◌∙◌}
+use Rattle.class_table.proofs.Lemmas.{Some, refl, sym, ap, ◌∙◌, with_bases, rows, repeat-differs, numbers, classes_of, lines-of, line-tried, blame-tried}
+use Rattle.std.proofs.Common.{◌∷◌}
 use Rattle.py_node.specs.declared.raised.Cause.TheVariants as causes
-use Rattle.class_model.specs.Change.{with_bases}
-use Rattle.mro_merge.specs.Lists.{rows}
-use Rattle.mro_merge.proofs.Repeats.{repeat-differs}
-use Rattle.class_table.specs.Keys.{numbers}
-use Rattle.class_table.specs.Stored.{classes_of}
-use Rattle.class_table.proofs.Orders.{lines-of}
-use Rattle.class_table.proofs.Trials.{line-tried, blame-tried}
 use Rattle.class_table.proofs.trial.merged.Goals as goal
 
 pub resolve_mro-requires : goal.resolve_mro-requires

@@ -1,9 +1,4 @@
-use Rattle.std.proofs.Common.{get_or, refl}
-use Rattle.std.proofs.lemmas.Option.{slice_get_within, slice_get-get_or}
-use Rattle.class_table.specs.Keys.{numbers}
-use Rattle.class_table.specs.declared.descendants.Ranked.{Ranked}
-use Rattle.class_table.proofs.Counted.{rise-then}
-use Rattle.class_table.proofs.Trials.{known-now, tried-more, tried-end}
+use Rattle.class_table.proofs.Lemmas.{get_or, refl, slice_get_within, slice_get-get_or, numbers, Ranked, rise-then, known-now, tried-more, tried-end}
 use Rattle.class_table.proofs.trial.trials.Goals as goal
 
 pub attempt-requires-clause-inside : goal.attempt-requires-clause-inside

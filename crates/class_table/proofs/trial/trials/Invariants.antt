@@ -1,6 +1,4 @@
-use Rattle.class_table.specs.Keys.{numbers}
-use Rattle.class_table.specs.Steps.{RiseBy}
-use Rattle.class_table.specs.Trial.{AreTried}
+use Rattle.class_table.proofs.Below.{numbers, RiseBy, AreTried}
 use Rattle.class_table.proofs.trial.trials.Given as goal
 
 abbrev pub invariant-loop-next : goal.invariant-loop-next

@@ -1,5 +1,4 @@
-use Rattle.std.proofs.Common.{◌∙◌, drop, arith}
-use Rattle.class_view.proofs.Feeding.{fed-more}
+use Rattle.class_view.proofs.Lemmas.{◌∙◌, drop, arith, fed-more}
 use Rattle.class_view.proofs.press.feed.Goals as goal
 
 pub loop-fed-preserved : goal.loop-fed-preserved

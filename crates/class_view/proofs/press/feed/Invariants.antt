@@ -1,5 +1,5 @@
-use Rattle.std.proofs.Common.{◌≡◌, ◌≤◌, ◌-◌, ◌++◌, drop, length, map}
-use Rattle.class_log.specs.Change.{change_of}
+use Rattle.class_view.proofs.Below.{drop, length, map, change_of}
+use Rattle.std.proofs.Common.{◌≡◌, ◌≤◌, ◌-◌, ◌++◌}
 use Rattle.class_view.proofs.press.feed.Given as goal
 
 abbrev pub invariant-loop-fed : goal.invariant-loop-fed

@@ -1,4 +1,4 @@
-use Rattle.std.proofs.Common.{length}
+use Rattle.class_view.proofs.Below.{length}
 use Rattle.class_view.proofs.same.+same_classes.Given as goal
 
 abbrev pub decreases-same_classes : goal.decreases-same_classes

@@ -1,5 +1,5 @@
-use Rattle.std.proofs.Common.{◌≡◌, ◌<◌, true, length, arith, rules}
-use Rattle.class_view.proofs.Alike.{changes-further, whole-part}
+use Rattle.class_view.proofs.Lemmas.{true, length, arith, rules, changes-further, whole-part}
+use Rattle.std.proofs.Common.{◌≡◌, ◌<◌}
 use Rattle.class_view.proofs.same.begins_with.Goals as goal
 
 pub loop-i-preserved : goal.loop-i-preserved

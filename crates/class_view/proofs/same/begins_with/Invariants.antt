@@ -1,5 +1,5 @@
-use Rattle.std.proofs.Common.{◌≡◌, map, take}
-use Rattle.class_log.specs.Change.{change_of}
+use Rattle.class_view.proofs.Below.{map, take, change_of}
+use Rattle.std.proofs.Common.{◌≡◌}
 use Rattle.class_view.proofs.same.begins_with.Given as goal
 
 abbrev pub invariant-loop-i : goal.invariant-loop-i

@@ -1,7 +1,5 @@
-use Rattle.std.proofs.Common.{◌≡◌, true, Some, sym, ap, ◌∙◌, rules}
-use Rattle.py_node.specs.declared.refs.PyObjectRef.{PyObjectRef}
-use Rattle.py_node.specs.declared.refs.PyStrInterned.{PyStrInterned}
-use Rattle.class_view.proofs.Alike.{further}
+use Rattle.class_view.proofs.Lemmas.{true, Some, sym, ap, ◌∙◌, rules, PyObjectRef, PyStrInterned, further}
+use Rattle.std.proofs.Common.{◌≡◌}
 use Rattle.class_view.proofs.same.same_attrs.Goals as goal
 
 pub loop-i-preserved : goal.loop-i-preserved

@@ -1,4 +1,5 @@
-use Rattle.std.proofs.Common.{◌≡◌, take}
+use Rattle.class_view.proofs.Below.{take}
+use Rattle.std.proofs.Common.{◌≡◌}
 use Rattle.class_view.proofs.same.same_attrs.Given as goal
 
 abbrev pub invariant-loop-i : goal.invariant-loop-i

@@ -1,5 +1,4 @@
-use Rattle.std.proofs.Common.{[]}
-use Rattle.class_world.proofs.Claims.{no-nodes, more-nodes}
+use Rattle.class_world.proofs.Lemmas.{[], no-nodes, more-nodes}
 use Rattle.class_world.proofs.args.alone.Goals as goal
 
 pub returns-clause-holds : goal.returns-clause-holds

@@ -1,9 +1,4 @@
-use Rattle.std.proofs.Common.{length, sym, ◌∙◌, add-one}
-use Rattle.std.proofs.lemmas.Slice.Zip.{zip_turn, zip_end}
-use Rattle.std.proofs.lemmas.List.{length_push}
-use Rattle.class_world.specs.Reading.{bindings}
-use Rattle.class_world.proofs.Bound.{with_value-holds}
-use Rattle.class_world.proofs.Filled.{filled-step, filled-end, name-at, node-at}
+use Rattle.class_world.proofs.Lemmas.{length, sym, ◌∙◌, add-one, zip_turn, zip_end, length_push, bindings, with_value-holds, filled-step, filled-end, name-at, node-at}
 use Rattle.class_world.proofs.args.filled.Goals as goal
 
 pub loop-name-preserved : goal.loop-name-preserved

@@ -1,8 +1,5 @@
-use Rattle.std.proofs.Common.{◌≡◌, [], map, length, drop}
-use Rattle.class_world.specs.Held.{Held}
-use Rattle.class_world.specs.Reading.{Reading, spelled, bindings}
-use Rattle.class_world.specs.Sound.{AllHold, AreNames, AreNodes, Holds, of_binding, of_each}
-use Rattle.plain_machine.specs.Args.{filled}
+use Rattle.class_world.proofs.Below.{[], map, length, drop, Held, Reading, spelled, bindings, AllHold, AreNames, AreNodes, Holds, of_binding, of_each, filled}
+use Rattle.std.proofs.Common.{◌≡◌}
 use Rattle.class_world.proofs.args.filled.Given as goal
 
 abbrev pub invariant-loop-name : goal.invariant-loop-name

@@ -1,5 +1,5 @@
-use Rattle.std.proofs.Common.{◌≡◌, take, fold}
-use Rattle.class_world.specs.StartNodes.{with_own_node}
+use Rattle.class_world.proofs.Below.{take, fold, with_own_node}
+use Rattle.std.proofs.Common.{◌≡◌}
 use Rattle.class_world.proofs.attributes_of_built_ins.add_objects.Given as goal
 
 abbrev pub invariant-loop-attr : goal.invariant-loop-attr

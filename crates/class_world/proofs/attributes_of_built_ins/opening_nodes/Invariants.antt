@@ -1,5 +1,5 @@
-use Rattle.std.proofs.Common.{◌≡◌, take, fold}
-use Rattle.class_world.specs.StartNodes.{start_nodes, with_own_nodes}
+use Rattle.class_world.proofs.Below.{take, fold, start_nodes, with_own_nodes}
+use Rattle.std.proofs.Common.{◌≡◌}
 use Rattle.class_world.proofs.attributes_of_built_ins.opening_nodes.Given as goal
 
 abbrev pub invariant-loop-row : goal.invariant-loop-row

@@ -1,4 +1,4 @@
-use Rattle.std.proofs.Common.{rules}
+use Rattle.class_world.proofs.Lemmas.{rules}
 use Rattle.class_world.proofs.heap.heap_with_node.Goals as goal
 
 pub returns-in-Ok-new_heap_slots-clause-node : goal.returns-in-Ok-new_heap_slots-clause-node

@@ -1,8 +1,4 @@
-use Rattle.std.proofs.Common.{rules, Some, sym, ap, ◌∙◌}
-use Rattle.std.specs.Prelude.{option_map, string_bytes}
-use Rattle.plain_machine.specs.Sound.{NumberKey, TextKey}
-use Rattle.class_world.specs.Sound.{key_in}
-use Rattle.class_world.proofs.KeyEntries.{no-key-in, nothing-named, text-unnamed}
+use Rattle.class_world.proofs.Lemmas.{rules, Some, sym, ap, ◌∙◌, option_map, string_bytes, NumberKey, TextKey, key_in, no-key-in, nothing-named, text-unnamed}
 use Rattle.class_world.proofs.keys.known_key.Goals as goal
 
 pub returns-in-Number-clause-read : goal.returns-in-Number-clause-read

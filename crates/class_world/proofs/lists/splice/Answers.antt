@@ -1,7 +1,4 @@
-use Rattle.std.proofs.Common.{sym, ap, ◌∙◌, map-id}
-use Rattle.std.specs.List.{splice}
-use Rattle.std.proofs.lemmas.Iterator.{items_from_drains}
-use Rattle.std.proofs.lemmas.Iterator.Adapters.{YieldsList-from_vec}
+use Rattle.class_world.proofs.Lemmas.{sym, ap, ◌∙◌, map-id, splice, items_from_drains, YieldsList-from_vec}
 use Rattle.class_world.proofs.lists.splice.Goals as goal
 
 pub returns-clause-ok : goal.returns-clause-ok

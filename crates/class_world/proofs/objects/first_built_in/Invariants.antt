@@ -1,8 +1,5 @@
-use Rattle.std.proofs.Common.{◌≡◌, drop}
-use Rattle.std.specs.Prelude.{nat_lt}
-use Rattle.class_model.specs.Layout.{built_ins}
-use Rattle.class_model.specs.Slot.{first_with}
-use Rattle.class_table.specs.Keys.{numbers}
+use Rattle.class_world.proofs.Below.{drop, nat_lt, built_ins, first_with, numbers}
+use Rattle.std.proofs.Common.{◌≡◌}
 use Rattle.class_world.proofs.objects.first_built_in.Given as goal
 
 abbrev pub invariant-loop-class : goal.invariant-loop-class

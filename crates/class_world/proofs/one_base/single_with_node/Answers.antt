@@ -1,4 +1,4 @@
-use Rattle.std.proofs.Common.{rules}
+use Rattle.class_world.proofs.Lemmas.{rules}
 use Rattle.class_world.proofs.one_base.single_with_node.Goals as goal
 
 pub returns-in-Ok-new_single-clause-node : goal.returns-in-Ok-new_single-clause-node

@@ -1,5 +1,5 @@
-use Rattle.std.proofs.Common.{◌≡◌, suc, ◌-◌, length, arith}
-use Rattle.class_world.proofs.Bodies.{function-at}
+use Rattle.class_world.proofs.Lemmas.{suc, length, arith, function-at}
+use Rattle.std.proofs.Common.{◌≡◌, ◌-◌}
 use Rattle.class_world.proofs.running.last_function.Goals as goal
 
 pub returns-else-count-eq0 : goal.returns-else-count-eq0

@@ -1,8 +1,5 @@
-use Rattle.std.proofs.Common.{arith, add-one, ap, ◌++◌, ◌∷◌, []}
-use Rattle.py_node.specs.declared.built_in.BuiltIn.TheVariants.{Object}
-use Rattle.py_node.specs.BuiltIns.{all_built_ins}
-use Rattle.class_table.proofs.StartParts.{map-step, map-end, built-count, in-row}
-use Rattle.class_world.specs.StartNodes.{class_node}
+use Rattle.class_world.proofs.Lemmas.{arith, add-one, ap, [], Object, all_built_ins, map-step, map-end, built-count, in-row, class_node}
+use Rattle.std.proofs.Common.{◌++◌, ◌∷◌}
 use Rattle.class_world.proofs.start.class_nodes.Goals as goal
 
 pub loop-row-preserved : goal.loop-row-preserved

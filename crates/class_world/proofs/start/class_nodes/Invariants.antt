@@ -1,6 +1,5 @@
-use Rattle.std.proofs.Common.{◌≡◌, map, take}
-use Rattle.py_node.specs.BuiltIns.{all_built_ins}
-use Rattle.class_world.specs.StartNodes.{class_node}
+use Rattle.class_world.proofs.Below.{map, take, all_built_ins, class_node}
+use Rattle.std.proofs.Common.{◌≡◌}
 use Rattle.class_world.proofs.start.class_nodes.Given as goal
 
 abbrev pub invariant-loop-row : goal.invariant-loop-row

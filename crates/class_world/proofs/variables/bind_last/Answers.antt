@@ -1,6 +1,5 @@
-use Rattle.std.proofs.Common.{◌≡◌, suc, ◌-◌, length, arith}
-use Rattle.std.proofs.lemmas.Result.{on_ok_weaker}
-use Rattle.class_world.proofs.Bound.{bound-at}
+use Rattle.class_world.proofs.Lemmas.{suc, length, arith, on_ok_weaker, bound-at}
+use Rattle.std.proofs.Common.{◌≡◌, ◌-◌}
 use Rattle.class_world.proofs.variables.bind_last.Goals as goal
 
 pub returns-clause-ok : goal.returns-clause-ok

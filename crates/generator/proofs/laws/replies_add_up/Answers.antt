@@ -1,10 +1,6 @@
 -- Each command has one reply, and each reply is of one sort.
-use Rattle.std.proofs.Common.{◌∙◌, ◌≡◌, ◌+◌, ℕ, length, arith}
-use Rattle.std.proofs.lemmas.List.FromFn.{length-map-range_with_len}
-use Rattle.plain_machine.specs.Answer.{plain_run}
-use Rattle.generator.specs.Commands.{generated}
-use Rattle.generator.proofs.OneByOne.{run-length}
-use Rattle.generator.proofs.Sorts.{sorts-add-up}
+use Rattle.generator.proofs.Lemmas.{◌∙◌, ℕ, length, arith, length-map-range_with_len, plain_run, generated, run-length, sorts-add-up}
+use Rattle.std.proofs.Common.{◌≡◌, ◌+◌}
 use Rattle.generator.proofs.laws.replies_add_up.Goals as goal
 
 count-of : (seed count : ℕ) → length (generated seed count) ≡ 8 + count

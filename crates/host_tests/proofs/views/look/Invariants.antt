@@ -1,4 +1,4 @@
-use Rattle.seat_lock.specs.Known.{IsFree}
+use Rattle.host_tests.proofs.Below.{IsFree}
 use Rattle.host_tests.proofs.views.look.Given as goal
 
 abbrev pub invariant-loop-command : goal.invariant-loop-command

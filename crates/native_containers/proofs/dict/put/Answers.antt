@@ -1,9 +1,4 @@
-use Rattle.std.proofs.Common.{Err, sym, ap, ◌∙◌}
-use Rattle.plain_machine.specs.Dicts.{with_entries, with_entry}
-use Rattle.plain_machine.specs.Plain.{Ends}
-use Rattle.class_world.specs.Reading.{plain}
-use Rattle.native_containers.specs.Say.{ends_none}
-use Rattle.native_containers.specs.Take.{entries_at}
+use Rattle.native_containers.proofs.Lemmas.{Err, sym, ap, ◌∙◌, with_entries, with_entry, Ends, plain, ends_none, entries_at}
 use Rattle.native_containers.proofs.Changed.{long, short}
 use Rattle.native_containers.proofs.dict.put.Goals as goal
 

@@ -1,11 +1,4 @@
-use Rattle.std.proofs.Common.{Err, sym, ap, ◌∙◌}
-use Rattle.py_node.specs.declared.raised.Cause.TheVariants.{MissingKey}
-use Rattle.plain_machine.specs.Plain.{Ends}
-use Rattle.plain_machine.specs.Row.{fault}
-use Rattle.class_world.specs.Held.{Held}
-use Rattle.class_world.specs.Reading.{plain}
-use Rattle.native_containers.specs.Say.{ends_none}
-use Rattle.native_containers.proofs.Under.{not-taken, taken}
+use Rattle.native_containers.proofs.Lemmas.{Err, sym, ap, ◌∙◌, MissingKey, Ends, fault, Held, plain, ends_none, not-taken, taken}
 use Rattle.native_containers.proofs.dict.take_key.Goals as goal
 
 pub returns-then-not-take_value_under-clause-ends : goal.returns-then-not-take_value_under-clause-ends

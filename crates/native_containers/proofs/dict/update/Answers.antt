@@ -1,6 +1,4 @@
-use Rattle.std.proofs.Common.{◌∙◌}
-use Rattle.class_world.specs.Reading.{plain}
-use Rattle.native_containers.specs.Say.{dict_updated, ends_none}
+use Rattle.native_containers.proofs.Lemmas.{◌∙◌, plain, dict_updated, ends_none}
 use Rattle.native_containers.proofs.dict.update.Goals as goal
 
 pub returns-in-Err-2-clause-ends : goal.returns-in-Err-2-clause-ends

@@ -1,13 +1,5 @@
-use Rattle.std.proofs.Common.{◌≡◌, Some, sym, ap, ◌∙◌, subst}
-use Rattle.py_node.specs.Dicts.{PlainDict}
-use Rattle.plain_machine.specs.Dicts.{entries_in}
-use Rattle.class_world.specs.Keyed.{of_keyed}
-use Rattle.class_world.specs.Reading.{Reading, datum, plain}
-use Rattle.class_world.specs.Sound.{AllHold, of_payload}
-use Rattle.class_world.proofs.DictChanges.{none-hold}
-use Rattle.class_world.proofs.Stored.{ok-map}
-use Rattle.native_containers.specs.Take.{entries_at}
-use Rattle.native_containers.proofs.Payloads.{no-entries}
+use Rattle.native_containers.proofs.Lemmas.{Some, sym, ap, ◌∙◌, subst, PlainDict, entries_in, of_keyed, Reading, datum, plain, AllHold, of_payload, none-hold, ok-map, entries_at, no-entries}
+use Rattle.std.proofs.Common.{◌≡◌}
 use Rattle.native_containers.proofs.entries.copy_dict.Goals as goal
 
 pub returns-in-Dict-clause-entries : goal.returns-in-Dict-clause-entries

@@ -1,13 +1,5 @@
-use Rattle.std.proofs.Common.{◌≡◌, refl, sym, ap, ◌∙◌, subst, fold}
-use Rattle.plain_machine.specs.Dicts.{with_entry}
-use Rattle.class_world.specs.Keyed.{of_entries, of_pairs}
-use Rattle.class_world.specs.Reading.{plain}
-use Rattle.class_world.specs.Sound.{AllHold}
-use Rattle.class_world.proofs.Claims.{all-grow}
-use Rattle.class_world.proofs.Growth.{grows-itself, grows-on}
-use Rattle.class_world.proofs.KeyEntries.{keys-can, pair-holds}
-use Rattle.native_containers.specs.Take.{entries_at}
-use Rattle.native_containers.proofs.Payloads.{entry-more, entries-all}
+use Rattle.native_containers.proofs.Lemmas.{refl, sym, ap, ◌∙◌, subst, fold, with_entry, of_entries, of_pairs, plain, AllHold, all-grow, grows-itself, grows-on, keys-can, pair-holds, entries_at, entry-more, entries-all}
+use Rattle.std.proofs.Common.{◌≡◌}
 use Rattle.native_containers.proofs.entries.with_entries.Goals as goal
 
 pub loop-entry-init : goal.loop-entry-init

@@ -1,9 +1,5 @@
-use Rattle.std.proofs.Common.{◌≡◌, take, fold}
-use Rattle.plain_machine.specs.Dicts.{with_entry}
-use Rattle.class_world.specs.Keyed.{of_keyed}
-use Rattle.class_world.specs.Reading.{Reading, Reads, plain}
-use Rattle.class_world.specs.Sound.{AllHold, Grows}
-use Rattle.native_containers.specs.Take.{entries_at}
+use Rattle.native_containers.proofs.Below.{take, fold, with_entry, of_keyed, Reading, Reads, plain, AllHold, Grows, entries_at}
+use Rattle.std.proofs.Common.{◌≡◌}
 use Rattle.native_containers.proofs.entries.with_entries.Given as goal
 
 abbrev pub invariant-loop-entry : goal.invariant-loop-entry

@@ -1,9 +1,5 @@
-use Rattle.std.proofs.Common.{◌≡◌, length, ◌∙◌, arith}
-use Rattle.class_world.specs.Reading.{bindings, plain}
-use Rattle.class_world.proofs.Claims.{all-grow}
-use Rattle.native_containers.specs.Say.{dict_filled, names_set}
-use Rattle.native_containers.proofs.Ends.{then-if}
-use Rattle.native_containers.proofs.Filled.{two-filled}
+use Rattle.native_containers.proofs.Lemmas.{length, ◌∙◌, arith, bindings, plain, all-grow, dict_filled, names_set, then-if, two-filled}
+use Rattle.std.proofs.Common.{◌≡◌}
 use Rattle.native_containers.proofs.init.fill.Goals as goal
 
 pub set_names-requires-in-Ok-clause-kw : goal.set_names-requires-in-Ok-clause-kw

@@ -1,7 +1,4 @@
-use Rattle.std.proofs.Common.{refl}
-use Rattle.class_world.proofs.Claims.{all-grow}
-use Rattle.class_world.proofs.Growth.{grows-itself}
-use Rattle.native_containers.proofs.Loops.{keyword-holds}
+use Rattle.native_containers.proofs.Lemmas.{refl, all-grow, grows-itself, keyword-holds}
 use Rattle.native_containers.proofs.init.set_names.Goals as goal
 
 pub loop-keyword-init : goal.loop-keyword-init

@@ -1,7 +1,5 @@
-use Rattle.std.proofs.Common.{◌≡◌, drop}
-use Rattle.class_world.specs.Reading.{Reading, Reads, bindings, plain}
-use Rattle.class_world.specs.Sound.{Grows}
-use Rattle.native_containers.specs.Say.{names_set}
+use Rattle.native_containers.proofs.Below.{drop, Reading, Reads, bindings, plain, Grows, names_set}
+use Rattle.std.proofs.Common.{◌≡◌}
 use Rattle.native_containers.proofs.init.set_names.Given as goal
 
 abbrev pub invariant-loop-keyword : goal.invariant-loop-keyword

@@ -1,9 +1,5 @@
-use Rattle.std.proofs.Common.{◌≡◌, Err, ◌∙◌}
-use Rattle.plain_machine.specs.Plain.{PlainWorld, Said, Ends}
-use Rattle.class_world.specs.Reading.{Reading, plain}
-use Rattle.class_world.proofs.Stored.{ok-map}
-use Rattle.native_containers.specs.Say.{dict_changed, dict_updated}
-use Rattle.native_containers.proofs.Changed.{err-map, update-says}
+use Rattle.native_containers.proofs.Lemmas.{Err, ◌∙◌, PlainWorld, Said, Ends, Reading, plain, ok-map, dict_changed, dict_updated, err-map, update-says}
+use Rattle.std.proofs.Common.{◌≡◌}
 use Rattle.native_containers.proofs.init.update_from.Goals as goal
 
 pub returns-clause-updated : goal.returns-clause-updated

@@ -1,10 +1,4 @@
-use Rattle.std.proofs.Common.{suc, length, sym, ap, ◌∙◌}
-use Rattle.std.specs.Prelude.{nat_le}
-use Rattle.plain_machine.specs.Dicts.{Entries}
-use Rattle.plain_machine.specs.Row.{most_items}
-use Rattle.class_world.specs.Reading.{plain}
-use Rattle.native_containers.specs.Take.{entries_at}
-use Rattle.native_containers.proofs.Under.{length-new, length-put}
+use Rattle.native_containers.proofs.Lemmas.{suc, length, sym, ap, ◌∙◌, nat_le, Entries, most_items, plain, entries_at, length-new, length-put}
 use Rattle.native_containers.proofs.keys.has_room.Goals as goal
 
 pub returns-in-None : goal.returns-in-None

@@ -1,5 +1,4 @@
-use Rattle.std.proofs.Common.{[]}
-use Rattle.class_world.proofs.Claims.{more-nodes, no-nodes}
+use Rattle.native_containers.proofs.Lemmas.{[], more-nodes, no-nodes}
 use Rattle.native_containers.proofs.list.push.Goals as goal
 
 pub push_items-requires-clause-more : goal.push_items-requires-clause-more

@@ -1,4 +1,4 @@
-use Rattle.native_containers.proofs.Payloads.{nodes-append}
+use Rattle.native_containers.proofs.Lemmas.{nodes-append}
 use Rattle.native_containers.proofs.sequence.joined.Goals as goal
 
 pub returns-then-is_within_limit-clause-holds : goal.returns-then-is_within_limit-clause-holds

@@ -1,8 +1,5 @@
-use Rattle.std.proofs.Common.{List, ◌∷◌, [], get_or, sym, ap, subst, ◌∙◌}
-use Rattle.order_check.specs.declared.hierarchy.Entry.{Entry}
-use Rattle.order_check.specs.Hierarchy.{keys_of}
-use Rattle.order_check.specs.Told.{orders_told, AreToldTo}
-use Rattle.order_check.proofs.Accepted.{root-told}
+use Rattle.order_check.proofs.Lemmas.{List, [], get_or, sym, ap, subst, ◌∙◌, Entry, keys_of, orders_told, AreToldTo, root-told}
+use Rattle.std.proofs.Common.{◌∷◌}
 use Rattle.order_check.proofs.accepting.accept.Goals as goal
 
 pub first_wrong-requires-clause-told : goal.first_wrong-requires-clause-told

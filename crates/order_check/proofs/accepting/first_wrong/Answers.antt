@@ -1,6 +1,5 @@
-use Rattle.std.proofs.Common.{◌+◌, ◌<◌, length, arith, below_more}
-use Rattle.order_check.specs.Report.{IsRightAt}
-use Rattle.order_check.proofs.Accepted.{told-more}
+use Rattle.order_check.proofs.Lemmas.{length, arith, below_more, IsRightAt, told-more}
+use Rattle.std.proofs.Common.{◌+◌, ◌<◌}
 use Rattle.order_check.proofs.accepting.first_wrong.Goals as goal
 
 pub loop-place-init : goal.loop-place-init

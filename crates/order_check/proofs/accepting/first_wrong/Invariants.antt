@@ -1,6 +1,5 @@
-use Rattle.std.proofs.Common.{◌+◌, ◌<◌, ℕ}
-use Rattle.order_check.specs.Report.{IsRightAt}
-use Rattle.order_check.specs.Told.{orders_told, AreToldTo}
+use Rattle.order_check.proofs.Below.{ℕ, IsRightAt, orders_told, AreToldTo}
+use Rattle.std.proofs.Common.{◌+◌, ◌<◌}
 use Rattle.order_check.proofs.accepting.first_wrong.Given as goal
 
 abbrev pub invariant-loop-place : goal.invariant-loop-place

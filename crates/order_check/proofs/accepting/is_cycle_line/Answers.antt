@@ -1,10 +1,4 @@
-use Rattle.std.proofs.Common.{sym, ap, ◌∙◌}
-use Rattle.std.proofs.lemmas.Bool.{false≢true}
-use Rattle.class_model.proofs.Numbers.{some-of}
-use Rattle.order_check.specs.Report.{first_without}
-use Rattle.order_check.specs.Told.{told_in, lists_told, tells_cycle}
-use Rattle.order_check.proofs.Deciding.{no-cycle_line, cycle-decided}
-use Rattle.order_check.proofs.Someness.{none-of}
+use Rattle.order_check.proofs.Lemmas.{sym, ap, ◌∙◌, false≢true, some-of, first_without, told_in, lists_told, tells_cycle, no-cycle_line, cycle-decided, none-of}
 use Rattle.order_check.proofs.accepting.is_cycle_line.Goals as goal
 
 pub returns-then-is_some : goal.returns-then-is_some

@@ -1,11 +1,6 @@
-use Rattle.std.proofs.Common.{◌≡◌, true, ℕ, List, Some, sym, ap, subst, ◌∙◌}
+use Rattle.order_check.proofs.Lemmas.{true, ℕ, List, Some, sym, ap, subst, ◌∙◌, false≢true, some-of, first_without, told_in, lists_told, merged_order, no-order, order-decided, none-of}
+use Rattle.std.proofs.Common.{◌≡◌}
 use Rattle.std.specs.Prelude.{◌↔◌}
-use Rattle.std.proofs.lemmas.Bool.{false≢true}
-use Rattle.class_model.proofs.Numbers.{some-of}
-use Rattle.order_check.specs.Report.{first_without}
-use Rattle.order_check.specs.Told.{told_in, lists_told, merged_order}
-use Rattle.order_check.proofs.Deciding.{no-order, order-decided}
-use Rattle.order_check.proofs.Someness.{none-of}
 use Rattle.order_check.proofs.accepting.is_order_line.Goals as goal
 
 pub returns-then-is_some : goal.returns-then-is_some

@@ -1,8 +1,5 @@
-use Rattle.std.proofs.Common.{◌+◌, length, get_or, refl, ap}
-use Rattle.std.proofs.lemmas.Option.{slice_get_read}
-use Rattle.order_check.specs.Told.{orders_told}
-use Rattle.order_check.proofs.Places.{bases-at}
-use Rattle.order_check.proofs.Accepted.{told-of, right-at}
+use Rattle.order_check.proofs.Lemmas.{length, get_or, refl, ap, slice_get_read, orders_told, bases-at, told-of, right-at}
+use Rattle.std.proofs.Common.{◌+◌}
 use Rattle.order_check.proofs.accepting.is_right.Goals as goal
 
 pub is_line-requires-clause-class : goal.is_line-requires-clause-class

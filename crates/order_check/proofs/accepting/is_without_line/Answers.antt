@@ -1,9 +1,5 @@
-use Rattle.std.proofs.Common.{◌≡◌, Some, sym, ap, ◌∙◌}
-use Rattle.std.proofs.lemmas.Bool.{eq-eqb, eqb-true, false≢true}
-use Rattle.order_check.specs.Hierarchy.{order_in}
-use Rattle.order_check.specs.Report.{first_without}
-use Rattle.order_check.specs.Told.{told_in}
-use Rattle.order_check.proofs.Deciding.{without-agrees}
+use Rattle.order_check.proofs.Lemmas.{Some, sym, ap, ◌∙◌, eq-eqb, eqb-true, false≢true, order_in, first_without, told_in, without-agrees}
+use Rattle.std.proofs.Common.{◌≡◌}
 use Rattle.order_check.proofs.accepting.is_without_line.Goals as goal
 
 pub returns-in-None : goal.returns-in-None

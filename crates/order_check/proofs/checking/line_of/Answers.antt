@@ -1,18 +1,5 @@
-use Rattle.std.proofs.Common.{◌≡◌, ℕ, length, map, Some, sym, ap, ◌∙◌}
-use Rattle.std.specs.Global.{Vec}
-use Rattle.std.proofs.lemmas.List.{length-map}
-use Rattle.class_model.specs.Order.{all_some}
-use Rattle.class_model.proofs.Linear.{all_some-at}
-use Rattle.class_model.proofs.Lines.{all_some-some}
-use Rattle.order_check.specs.Lists.{rows}
-use Rattle.order_check.specs.Found.{cycle_of}
-use Rattle.order_check.specs.Orders.{lists_of}
-use Rattle.order_check.specs.Hierarchy.{orders, order_in}
-use Rattle.order_check.specs.Known.{known_in}
-use Rattle.order_check.specs.Report.{found_pairs}
-use Rattle.order_check.proofs.Gathered.{read-all, read-without}
-use Rattle.order_check.proofs.Knowing.{known-apart}
-use Rattle.order_check.proofs.Telling.{all-in, all-known, first_without-same, all_some-length, cycle-line}
+use Rattle.order_check.proofs.Lemmas.{ℕ, length, map, Some, sym, ap, ◌∙◌, Vec, length-map, all_some, all_some-at, all_some-some, rows, cycle_of, lists_of, orders, order_in, known_in, found_pairs, read-all, read-without, known-apart, all-in, all-known, first_without-same, all_some-length, cycle-line}
+use Rattle.std.proofs.Common.{◌≡◌}
 use Rattle.order_check.proofs.checking.line_of.Goals as goal
 
 pub returns-in-Some-clause-line : goal.returns-in-Some-clause-line

@@ -1,9 +1,5 @@
-use Rattle.std.proofs.Common.{◌≡◌, ◌+◌, ◌<◌, false, cond, ℕ, List, ◌∷◌, length, get_or, drop, Some, sym, ap, ◌∙◌, arith}
-use Rattle.std.specs.Global.{Vec}
-use Rattle.std.proofs.lemmas.List.{drop_more}
-use Rattle.order_check.specs.Lists.{rows}
-use Rattle.order_check.specs.Cycle.{is_before}
-use Rattle.order_check.specs.Report.{list_with}
+use Rattle.order_check.proofs.Lemmas.{false, cond, ℕ, List, length, get_or, drop, Some, sym, ap, ◌∙◌, arith, Vec, drop_more, rows, is_before, list_with}
+use Rattle.std.proofs.Common.{◌≡◌, ◌+◌, ◌<◌, ◌∷◌}
 use Rattle.order_check.proofs.checking.list_with.Goals as goal
 
 -- a list that has no such pair is passed

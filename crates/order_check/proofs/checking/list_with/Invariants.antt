@@ -1,6 +1,5 @@
-use Rattle.std.proofs.Common.{◌≡◌, drop}
-use Rattle.order_check.specs.Lists.{rows}
-use Rattle.order_check.specs.Report.{list_with}
+use Rattle.order_check.proofs.Below.{drop, rows, list_with}
+use Rattle.std.proofs.Common.{◌≡◌}
 use Rattle.order_check.proofs.checking.list_with.Given as goal
 
 abbrev pub invariant-loop-place : goal.invariant-loop-place

@@ -1,7 +1,5 @@
-use Rattle.std.proofs.Common.{◌≡◌, ◌++◌, drop}
-use Rattle.order_check.specs.Lists.{rows}
-use Rattle.order_check.specs.Cycle.{first_or}
-use Rattle.order_check.specs.Report.{pairs_to, pairs_of}
+use Rattle.order_check.proofs.Below.{drop, rows, first_or, pairs_to, pairs_of}
+use Rattle.std.proofs.Common.{◌≡◌, ◌++◌}
 use Rattle.order_check.proofs.checking.pairs.Given as goal
 
 abbrev pub invariant-loop-place : goal.invariant-loop-place

@@ -1,9 +1,6 @@
-use Rattle.std.proofs.Common.{ℕ, suc, ◌<◌, List, length, sym, subst, arith, length-append}
-use Rattle.std.specs.Prelude.{slice_get}
-use Rattle.order_check.specs.declared.report.Line.{Line}
-use Rattle.order_check.specs.Report.{OnBoth, IsLine, IsFoundLine}
+use Rattle.order_check.proofs.Lemmas.{ℕ, suc, List, length, sym, subst, arith, length-append, slice_get, Line, OnBoth, IsLine, IsFoundLine, bases-at}
+use Rattle.std.proofs.Common.{◌<◌}
 use Rattle.order_check.proofs.Paired.{one-more, all-there}
-use Rattle.order_check.proofs.Places.{bases-at}
 use Rattle.order_check.proofs.checking.report_of.Goals as goal
 
 pub line_of-requires-clause-class : goal.line_of-requires-clause-class

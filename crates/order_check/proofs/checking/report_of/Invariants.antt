@@ -1,6 +1,5 @@
-use Rattle.std.proofs.Common.{◌≡◌, ℕ, suc, ◌+◌, ◌<◌, length}
-use Rattle.std.specs.Prelude.{slice_get}
-use Rattle.order_check.specs.Report.{OnBoth, IsLine, IsFoundLine}
+use Rattle.order_check.proofs.Below.{ℕ, suc, length, slice_get, OnBoth, IsLine, IsFoundLine}
+use Rattle.std.proofs.Common.{◌≡◌, ◌+◌, ◌<◌}
 use Rattle.order_check.proofs.checking.report_of.Given as goal
 
 abbrev pub invariant-loop-place : goal.invariant-loop-place

@@ -1,11 +1,5 @@
-use Rattle.std.proofs.Common.{◌≡◌, ℕ, List, Result, Ok, Err, Option, sym, ap, subst, ◌∙◌}
-use Rattle.std.specs.Prelude.{IfOk, option_map}
-use Rattle.std.specs.Global.{Vec}
-use Rattle.order_check.specs.Lists.{rows}
-use Rattle.order_check.specs.Cycle.{IsAnswer}
-use Rattle.order_check.specs.Found.{left, found_in, cycle_of}
-use Rattle.order_check.proofs.Fact.{cycle_of-answer, merged_or_cyclic}
-use Rattle.order_check.proofs.ClassFact.{ordered_or_cyclic}
+use Rattle.order_check.proofs.Lemmas.{ℕ, List, Result, Ok, Err, Option, sym, ap, subst, ◌∙◌, IfOk, option_map, Vec, rows, IsAnswer, left, found_in, cycle_of, cycle_of-answer, merged_or_cyclic, ordered_or_cyclic}
+use Rattle.std.proofs.Common.{◌≡◌}
 use Rattle.order_check.proofs.cycles.cycle_of.Goals as goal
 
 ruled : {E : Type 0} (r : Result (Option (Vec ℕ)) E) (ls rest : List (List ℕ)) → rest ≡ left ls → IfOk r (λ o. option_map (λ (v : Vec ℕ). v.items) o ≡ found_in rest) → IfOk r (λ o. option_map (λ (v : Vec ℕ). v.items) o ≡ cycle_of ls)

@@ -1,6 +1,5 @@
-use Rattle.std.proofs.Common.{◌≡◌, drop}
-use Rattle.mro_merge.specs.Merge.{heads}
-use Rattle.order_check.specs.Lists.{rows}
+use Rattle.order_check.proofs.Below.{drop, heads, rows}
+use Rattle.std.proofs.Common.{◌≡◌}
 use Rattle.order_check.proofs.cycles.found_in.Given as goal
 
 abbrev pub invariant-loop-list : goal.invariant-loop-list

@@ -1,5 +1,5 @@
-use Rattle.std.proofs.Common.{◌≡◌, drop}
-use Rattle.order_check.specs.Cycle.{is_before}
+use Rattle.order_check.proofs.Below.{drop, is_before}
+use Rattle.std.proofs.Common.{◌≡◌}
 use Rattle.order_check.proofs.cycles.is_before.Given as goal
 
 abbrev pub invariant-loop-place : goal.invariant-loop-place

@@ -1,5 +1,5 @@
-use Rattle.std.proofs.Common.{◌≡◌, drop}
-use Rattle.order_check.specs.Found.{least_from}
+use Rattle.order_check.proofs.Below.{drop, least_from}
+use Rattle.std.proofs.Common.{◌≡◌}
 use Rattle.order_check.proofs.cycles.least.Given as goal
 
 abbrev pub invariant-loop-key : goal.invariant-loop-key

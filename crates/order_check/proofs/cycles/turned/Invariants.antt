@@ -1,5 +1,5 @@
-use Rattle.std.proofs.Common.{◌≡◌, [], take, drop}
-use Rattle.order_check.specs.Found.{turned_from}
+use Rattle.order_check.proofs.Below.{[], take, drop, turned_from}
+use Rattle.std.proofs.Common.{◌≡◌}
 use Rattle.order_check.proofs.cycles.turned.Given as goal
 
 abbrev pub invariant-loop-place : goal.invariant-loop-place

@@ -1,6 +1,5 @@
-use Rattle.std.proofs.Common.{◌≡◌, drop}
-use Rattle.class_model.specs.Order.{is_distinct}
-use Rattle.order_check.specs.Hierarchy.{keys_of}
+use Rattle.order_check.proofs.Below.{drop, is_distinct, keys_of}
+use Rattle.std.proofs.Common.{◌≡◌}
 use Rattle.order_check.proofs.forms.all_differ.Given as goal
 
 abbrev pub invariant-loop-place : goal.invariant-loop-place

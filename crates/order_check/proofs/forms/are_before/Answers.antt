@@ -1,9 +1,5 @@
-use Rattle.std.proofs.Common.{◌<◌, length, get_or, arith}
-use Rattle.std.proofs.lemmas.Bool.{false≢true}
-use Rattle.std.proofs.lemmas.List.{length-map}
-use Rattle.order_check.specs.declared.hierarchy.Entry.{Entry}
-use Rattle.order_check.specs.Hierarchy.{keys_of}
-use Rattle.order_check.proofs.Keyed.{before-none, before-more, before-at, taken, not-taken, taken-held}
+use Rattle.order_check.proofs.Lemmas.{length, get_or, arith, false≢true, length-map, Entry, keys_of, before-none, before-more, before-at, taken, not-taken, taken-held}
+use Rattle.std.proofs.Common.{◌<◌}
 use Rattle.order_check.proofs.forms.are_before.Goals as goal
 
 pub loop-base-init : goal.loop-base-init

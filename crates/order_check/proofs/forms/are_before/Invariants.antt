@@ -1,6 +1,4 @@
-use Rattle.std.proofs.Common.{take}
-use Rattle.order_check.specs.Hierarchy.{keys_of}
-use Rattle.order_check.specs.Forms.{AreBefore}
+use Rattle.order_check.proofs.Below.{take, keys_of, AreBefore}
 use Rattle.order_check.proofs.forms.are_before.Given as goal
 
 abbrev pub invariant-loop-base : goal.invariant-loop-base

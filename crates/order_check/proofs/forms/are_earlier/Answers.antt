@@ -1,10 +1,6 @@
-use Rattle.std.proofs.Common.{◌≡◌, List, ℕ, true, length, get_or, refl, ap, sym, subst, ◌∙◌}
+use Rattle.order_check.proofs.Lemmas.{List, ℕ, true, length, get_or, refl, ap, sym, subst, ◌∙◌, false≢true, slice_get_read, keys_of, AreBefore, earlier-none, earlier-more, earlier-at}
+use Rattle.std.proofs.Common.{◌≡◌}
 use Rattle.std.specs.Prelude.{◌↔◌}
-use Rattle.std.proofs.lemmas.Bool.{false≢true}
-use Rattle.std.proofs.lemmas.Option.{slice_get_read}
-use Rattle.order_check.specs.Hierarchy.{keys_of}
-use Rattle.order_check.specs.Forms.{AreBefore}
-use Rattle.order_check.proofs.Keyed.{earlier-none, earlier-more, earlier-at}
 use Rattle.order_check.proofs.forms.are_earlier.Goals as goal
 
 pub loop-place-init : goal.loop-place-init

@@ -1,10 +1,5 @@
-use Rattle.std.proofs.Common.{refl, sym, ◌∙◌}
+use Rattle.order_check.proofs.Lemmas.{refl, sym, ◌∙◌, length-map, Decides-distinct, Entry, keys_of, ascend-distinct}
 use Rattle.std.specs.Prelude.{length}
-use Rattle.std.proofs.lemmas.List.{length-map}
-use Rattle.class_model.proofs.Tests.{Decides-distinct}
-use Rattle.order_check.specs.declared.hierarchy.Entry.{Entry}
-use Rattle.order_check.specs.Hierarchy.{keys_of}
-use Rattle.order_check.proofs.Keyed.{ascend-distinct}
 use Rattle.order_check.proofs.forms.are_keyed.Goals as goal
 
 pub returns-then-ascend : goal.returns-then-ascend

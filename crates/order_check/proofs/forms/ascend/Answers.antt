@@ -1,7 +1,5 @@
-use Rattle.std.proofs.Common.{◌-◌, ◌<◌, length, get_or, ap, arith}
-use Rattle.order_check.specs.Hierarchy.{keys_of}
-use Rattle.order_check.proofs.Keyed.{ascend-none, ascend-more, ascend-less}
-use Rattle.order_check.proofs.Places.{key-at}
+use Rattle.order_check.proofs.Lemmas.{length, get_or, ap, arith, keys_of, ascend-none, ascend-more, ascend-less, key-at}
+use Rattle.std.proofs.Common.{◌-◌, ◌<◌}
 use Rattle.order_check.proofs.forms.ascend.Goals as goal
 
 pub loop-place-init : goal.loop-place-init

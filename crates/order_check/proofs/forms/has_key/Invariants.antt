@@ -1,6 +1,5 @@
-use Rattle.std.proofs.Common.{◌≡◌, drop}
-use Rattle.class_model.specs.Order.{has}
-use Rattle.order_check.specs.Hierarchy.{keys_of}
+use Rattle.order_check.proofs.Below.{drop, has, keys_of}
+use Rattle.std.proofs.Common.{◌≡◌}
 use Rattle.order_check.proofs.forms.has_key.Given as goal
 
 abbrev pub invariant-loop-entry : goal.invariant-loop-entry

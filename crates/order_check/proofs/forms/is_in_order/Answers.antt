@@ -1,9 +1,6 @@
-use Rattle.std.proofs.Common.{◌≡◌, List, true, length, subst}
+use Rattle.order_check.proofs.Lemmas.{List, true, length, subst, Entry, AreKeyed, AreEarlierTo, in-order, order-earlier}
+use Rattle.std.proofs.Common.{◌≡◌}
 use Rattle.std.specs.Prelude.{◌↔◌}
-use Rattle.order_check.specs.declared.hierarchy.Entry.{Entry}
-use Rattle.order_check.specs.Hierarchy.{AreKeyed}
-use Rattle.order_check.specs.Forms.{AreEarlierTo}
-use Rattle.order_check.proofs.Keyed.{in-order, order-earlier}
 use Rattle.order_check.proofs.forms.is_in_order.Goals as goal
 
 pub returns : goal.returns

@@ -1,10 +1,5 @@
-use Rattle.std.proofs.Common.{◌≡◌, ◌++◌, map, drop}
-use Rattle.std.specs.Prelude.{option_map}
-use Rattle.class_model.specs.Order.{all_some}
-use Rattle.order_check.specs.Lists.{rows}
-use Rattle.order_check.specs.Hierarchy.{orders}
-use Rattle.order_check.specs.Known.{known_in}
-use Rattle.order_check.specs.Report.{first_without}
+use Rattle.order_check.proofs.Below.{map, drop, option_map, all_some, rows, orders, known_in, first_without}
+use Rattle.std.proofs.Common.{◌≡◌, ◌++◌}
 use Rattle.order_check.proofs.known.known_lines.Given as goal
 
 abbrev pub invariant-loop-base : goal.invariant-loop-base

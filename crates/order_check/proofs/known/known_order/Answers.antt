@@ -1,7 +1,4 @@
-use Rattle.std.proofs.Common.{Some, sym, ap, ◌∙◌}
-use Rattle.order_check.specs.Hierarchy.{orders}
-use Rattle.order_check.proofs.Places.{known-none}
-use Rattle.order_check.proofs.Tables.{items_of, orders-known}
+use Rattle.order_check.proofs.Lemmas.{Some, sym, ap, ◌∙◌, orders, known-none, items_of, orders-known}
 use Rattle.order_check.proofs.known.known_order.Goals as goal
 
 pub returns-in-None-clause-none : goal.returns-in-None-clause-none

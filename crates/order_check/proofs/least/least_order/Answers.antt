@@ -1,5 +1,5 @@
-use Rattle.std.proofs.Common.{◌∷◌, Some, ap, ◌∙◌}
-use Rattle.order_check.proofs.Single.{single-order}
+use Rattle.order_check.proofs.Lemmas.{Some, ap, ◌∙◌, single-order}
+use Rattle.std.proofs.Common.{◌∷◌}
 use Rattle.order_check.proofs.least.least_order.Goals as goal
 
 pub returns-in-len1 : goal.returns-in-len1

@@ -1,5 +1,5 @@
-use Rattle.std.proofs.Common.{◌≡◌, take}
-use Rattle.mro_merge.specs.Lists.{numbers}
+use Rattle.order_check.proofs.Below.{take, numbers}
+use Rattle.std.proofs.Common.{◌≡◌}
 use Rattle.order_check.proofs.least.references.Given as goal
 
 abbrev pub invariant-loop-key : goal.invariant-loop-key

@@ -1,7 +1,5 @@
-use Rattle.std.proofs.Common.{◌≡◌, drop}
-use Rattle.mro_merge.specs.Steps.{are_empty}
-use Rattle.order_check.specs.Line.{rest}
-use Rattle.order_check.specs.Told.{told_in, lists_past, lists_told}
+use Rattle.order_check.proofs.Below.{drop, are_empty, rest, told_in, lists_past, lists_told}
+use Rattle.std.proofs.Common.{◌≡◌}
 use Rattle.order_check.proofs.led.are_gone.Given as goal
 
 abbrev pub invariant-loop-base : goal.invariant-loop-base

@@ -1,6 +1,4 @@
-use Rattle.std.proofs.Common.{◌∙◌, sym}
-use Rattle.order_check.specs.Told.{told_in, lists_told}
-use Rattle.order_check.proofs.Seen.{led-none}
+use Rattle.order_check.proofs.Lemmas.{◌∙◌, sym, told_in, lists_told, led-none}
 use Rattle.order_check.proofs.led.are_led.Goals as goal
 
 pub returns-in-None : goal.returns-in-None

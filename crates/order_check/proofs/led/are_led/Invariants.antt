@@ -1,6 +1,5 @@
-use Rattle.std.proofs.Common.{◌≡◌, [], take, drop}
-use Rattle.order_check.specs.Line.{is_led}
-use Rattle.order_check.specs.Told.{told_in, lists_told}
+use Rattle.order_check.proofs.Below.{[], take, drop, is_led, told_in, lists_told}
+use Rattle.std.proofs.Common.{◌≡◌}
 use Rattle.order_check.proofs.led.are_led.Given as goal
 
 abbrev pub invariant-loop-place : goal.invariant-loop-place

@@ -1,5 +1,4 @@
-use Rattle.order_check.specs.Told.{told_in, lists_told}
-use Rattle.order_check.proofs.LineMerged.{led_or_not}
+use Rattle.order_check.proofs.Lemmas.{told_in, lists_told, led_or_not}
 use Rattle.order_check.proofs.led.is_merge.Goals as goal
 
 pub returns : goal.returns

@@ -1,7 +1,5 @@
-use Rattle.std.proofs.Common.{◌≡◌, drop}
-use Rattle.class_model.specs.Change.{stands_past}
-use Rattle.order_check.specs.Line.{rest}
-use Rattle.order_check.specs.Told.{told_in, lists_past, lists_told}
+use Rattle.order_check.proofs.Below.{drop, stands_past, rest, told_in, lists_past, lists_told}
+use Rattle.std.proofs.Common.{◌≡◌}
 use Rattle.order_check.proofs.led.stands_past_left.Given as goal
 
 abbrev pub invariant-loop-base : goal.invariant-loop-base

@@ -1,5 +1,5 @@
-use Rattle.std.proofs.Common.{◌≡◌, take}
-use Rattle.order_check.specs.Lists.{rows}
+use Rattle.order_check.proofs.Below.{take, rows}
+use Rattle.std.proofs.Common.{◌≡◌}
 use Rattle.order_check.proofs.left.copy.Given as goal
 
 abbrev pub invariant-loop-list : goal.invariant-loop-list

@@ -1,6 +1,5 @@
-use Rattle.std.proofs.Common.{◌≡◌, drop}
-use Rattle.mro_merge.specs.Steps.{first_free}
-use Rattle.order_check.specs.Lists.{rows}
+use Rattle.order_check.proofs.Below.{drop, first_free, rows}
+use Rattle.std.proofs.Common.{◌≡◌}
 use Rattle.order_check.proofs.left.first_free.Given as goal
 
 abbrev pub invariant-loop-list : goal.invariant-loop-list

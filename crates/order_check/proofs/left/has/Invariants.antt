@@ -1,5 +1,5 @@
-use Rattle.std.proofs.Common.{◌≡◌, drop}
-use Rattle.class_model.specs.Order.{has}
+use Rattle.order_check.proofs.Below.{drop, has}
+use Rattle.std.proofs.Common.{◌≡◌}
 use Rattle.order_check.proofs.left.has.Given as goal
 
 abbrev pub invariant-loop-other : goal.invariant-loop-other

@@ -1,10 +1,5 @@
-use Rattle.std.proofs.Common.{◌≡◌, ℕ, List, sym, ap, ◌∙◌}
-use Rattle.std.specs.Global.{Vec}
-use Rattle.mro_merge.specs.Steps.{first_free}
-use Rattle.order_check.specs.Lists.{rows}
-use Rattle.order_check.specs.Found.{left}
-use Rattle.mro_merge.proofs.Steps.{struck-fewer}
-use Rattle.order_check.proofs.Stepped.{left-end, left-step}
+use Rattle.order_check.proofs.Lemmas.{ℕ, List, sym, ap, ◌∙◌, Vec, first_free, rows, left, struck-fewer, left-end, left-step}
+use Rattle.std.proofs.Common.{◌≡◌}
 use Rattle.order_check.proofs.left.left.Goals as goal
 
 free_at : (xs ys : List (Vec ℕ)) → xs ≡ ys → first_free (rows xs) (rows xs) ≡ first_free (rows ys) (rows ys)

@@ -1,7 +1,5 @@
-use Rattle.std.proofs.Common.{◌≡◌, length}
-use Rattle.mro_merge.specs.Merge.{members}
-use Rattle.order_check.specs.Lists.{rows}
-use Rattle.order_check.specs.Found.{left}
+use Rattle.order_check.proofs.Below.{length, members, rows, left}
+use Rattle.std.proofs.Common.{◌≡◌}
 use Rattle.order_check.proofs.left.left.Given as goal
 
 abbrev pub invariant-loop-next : goal.invariant-loop-next

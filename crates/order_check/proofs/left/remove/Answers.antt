@@ -1,5 +1,4 @@
-use Rattle.std.proofs.Common.{rules}
-use Rattle.std.proofs.lemmas.Fn.{filter_same}
+use Rattle.order_check.proofs.Lemmas.{rules, filter_same}
 use Rattle.order_check.proofs.left.remove.Goals as goal
 
 pub returns : goal.returns

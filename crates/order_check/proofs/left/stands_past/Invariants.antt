@@ -1,6 +1,5 @@
-use Rattle.std.proofs.Common.{◌≡◌, drop}
-use Rattle.class_model.specs.Change.{stands_past}
-use Rattle.order_check.specs.Lists.{rows}
+use Rattle.order_check.proofs.Below.{drop, stands_past, rows}
+use Rattle.std.proofs.Common.{◌≡◌}
 use Rattle.order_check.proofs.left.stands_past.Given as goal
 
 abbrev pub invariant-loop-list : goal.invariant-loop-list

@@ -1,6 +1,5 @@
-use Rattle.std.proofs.Common.{◌<◌, length, arith}
-use Rattle.class_model.specs.Order.{without}
-use Rattle.order_check.proofs.Mapped.{rows-step}
+use Rattle.order_check.proofs.Lemmas.{length, arith, without, rows-step}
+use Rattle.std.proofs.Common.{◌<◌}
 use Rattle.order_check.proofs.left.strike.Goals as goal
 
 pub loop-i-preserved : goal.loop-i-preserved

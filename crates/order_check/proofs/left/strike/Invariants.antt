@@ -1,6 +1,5 @@
-use Rattle.std.proofs.Common.{◌≡◌, ◌++◌, map, take, drop}
-use Rattle.class_model.specs.Order.{without}
-use Rattle.order_check.specs.Lists.{rows}
+use Rattle.order_check.proofs.Below.{map, take, drop, without, rows}
+use Rattle.std.proofs.Common.{◌≡◌, ◌++◌}
 use Rattle.order_check.proofs.left.strike.Given as goal
 
 abbrev pub invariant-loop-i : goal.invariant-loop-i

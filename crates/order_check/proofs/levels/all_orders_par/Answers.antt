@@ -1,6 +1,4 @@
-use Rattle.std.proofs.Common.{arith}
-use Rattle.order_check.specs.Hierarchy.{orders}
-use Rattle.order_check.proofs.Tables.{none-known}
+use Rattle.order_check.proofs.Lemmas.{arith, orders, none-known}
 use Rattle.order_check.proofs.levels.all_orders_par.Goals as goal
 
 pub loop-places-init : goal.loop-places-init

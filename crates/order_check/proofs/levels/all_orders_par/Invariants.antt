@@ -1,6 +1,5 @@
-use Rattle.std.proofs.Common.{◌≡◌, ◌<◌, All, length}
-use Rattle.order_check.specs.Hierarchy.{orders}
-use Rattle.order_check.specs.Known.{AreKnown}
+use Rattle.order_check.proofs.Below.{All, length, orders, AreKnown}
+use Rattle.std.proofs.Common.{◌≡◌, ◌<◌}
 use Rattle.order_check.proofs.levels.all_orders_par.Given as goal
 
 abbrev pub invariant-loop-places : goal.invariant-loop-places

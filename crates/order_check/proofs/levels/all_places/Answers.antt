@@ -1,5 +1,5 @@
-use Rattle.std.proofs.Common.{◌<◌, All, ℕ, sym, subst}
-use Rattle.std.proofs.lemmas.List.Elements.{All-push}
+use Rattle.order_check.proofs.Lemmas.{All, ℕ, sym, subst, All-push}
+use Rattle.std.proofs.Common.{◌<◌}
 use Rattle.order_check.proofs.levels.all_places.Goals as goal
 
 pub loop-place-preserved : goal.loop-place-preserved

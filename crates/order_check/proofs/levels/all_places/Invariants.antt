@@ -1,4 +1,5 @@
-use Rattle.std.proofs.Common.{◌<◌, All}
+use Rattle.order_check.proofs.Below.{All}
+use Rattle.std.proofs.Common.{◌<◌}
 use Rattle.order_check.proofs.levels.all_places.Given as goal
 
 abbrev pub invariant-loop-place : goal.invariant-loop-place

@@ -1,7 +1,4 @@
-use Rattle.std.proofs.Common.{sym, ◌∙◌}
-use Rattle.std.proofs.lemmas.List.Elements.{All-pop}
-use Rattle.order_check.specs.Known.{IsFound}
-use Rattle.order_check.proofs.Finding.{keep-one}
+use Rattle.order_check.proofs.Lemmas.{sym, ◌∙◌, All-pop, IsFound, keep-one}
 use Rattle.order_check.proofs.levels.keep.Goals as goal
 
 pub loop-one-preserved : goal.loop-one-preserved

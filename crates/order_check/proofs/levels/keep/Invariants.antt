@@ -1,6 +1,5 @@
-use Rattle.std.proofs.Common.{◌≡◌, All, length}
-use Rattle.order_check.specs.Hierarchy.{orders}
-use Rattle.order_check.specs.Known.{AreKnown, IsFound}
+use Rattle.order_check.proofs.Below.{All, length, orders, AreKnown, IsFound}
+use Rattle.std.proofs.Common.{◌≡◌}
 use Rattle.order_check.proofs.levels.keep.Given as goal
 
 abbrev pub invariant-loop-one : goal.invariant-loop-one

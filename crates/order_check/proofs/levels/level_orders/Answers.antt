@@ -1,8 +1,5 @@
-use Rattle.std.proofs.Common.{ap, ◌∙◌}
-use Rattle.std.proofs.Crossing.{crosses, frees}
+use Rattle.order_check.proofs.Lemmas.{ap, ◌∙◌, crosses, frees, IsFound, gathered}
 use denote.Param.Send.{sendable}
-use Rattle.order_check.specs.Known.{IsFound}
-use Rattle.order_check.proofs.Finding.{gathered}
 use Rattle.order_check.proofs.levels.level_orders.Goals as goal
 
 -- one line for each `Send` and `Sync`, the allocator, and then the closure's `requires` at each place of the level

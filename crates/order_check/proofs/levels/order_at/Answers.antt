@@ -1,5 +1,4 @@
-use Rattle.order_check.proofs.Places.{bases-at}
-use Rattle.order_check.proofs.Finding.{over-right}
+use Rattle.order_check.proofs.Lemmas.{bases-at, over-right}
 use Rattle.order_check.proofs.levels.order_at.Goals as goal
 
 pub order_over-requires-clause-class : goal.order_over-requires-clause-class

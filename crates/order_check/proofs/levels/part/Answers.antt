@@ -1,7 +1,5 @@
-use Rattle.std.proofs.Common.{◌<◌, All, length, get_or, ℕ, sym, ap, subst, ◌∙◌, arith}
-use Rattle.std.specs.Global.{Vec}
-use Rattle.std.proofs.lemmas.List.{length_push}
-use Rattle.std.proofs.lemmas.List.Elements.{All-push}
+use Rattle.order_check.proofs.Lemmas.{All, length, get_or, ℕ, sym, ap, subst, ◌∙◌, arith, Vec, length_push, All-push}
+use Rattle.std.proofs.Common.{◌<◌}
 use Rattle.order_check.proofs.levels.part.Goals as goal
 use Rattle.order_check.proofs.levels.part.Goals.{then-are_known+in_ok-push, else-are_known+in_ok-push-2}
 

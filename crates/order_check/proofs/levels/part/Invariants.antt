@@ -1,4 +1,5 @@
-use Rattle.std.proofs.Common.{◌≡◌, ◌+◌, ◌<◌, All, length}
+use Rattle.order_check.proofs.Below.{All, length}
+use Rattle.std.proofs.Common.{◌≡◌, ◌+◌, ◌<◌}
 use Rattle.order_check.proofs.levels.part.Given as goal
 
 abbrev pub invariant-loop-place : goal.invariant-loop-place

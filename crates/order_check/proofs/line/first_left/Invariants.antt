@@ -1,6 +1,5 @@
-use Rattle.std.proofs.Common.{◌≡◌, drop}
-use Rattle.mro_merge.specs.Steps.{past}
-use Rattle.order_check.specs.Line.{first_of}
+use Rattle.order_check.proofs.Below.{drop, past, first_of}
+use Rattle.std.proofs.Common.{◌≡◌}
 use Rattle.order_check.proofs.line.first_left.Given as goal
 
 abbrev pub invariant-loop-key : goal.invariant-loop-key

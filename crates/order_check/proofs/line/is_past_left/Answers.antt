@@ -1,8 +1,5 @@
-use Rattle.std.proofs.Common.{◌+◌, sym, ap, ◌∙◌}
-use Rattle.std.specs.Prelude.{not}
-use Rattle.std.proofs.lemmas.List.{take_rest}
-use Rattle.class_model.specs.Order.{has}
-use Rattle.order_check.proofs.Seen.{first-past-gone, first-past-kept}
+use Rattle.order_check.proofs.Lemmas.{sym, ap, ◌∙◌, not, take_rest, has, first-past-gone, first-past-kept}
+use Rattle.std.proofs.Common.{◌+◌}
 use Rattle.order_check.proofs.line.is_past_left.Goals as goal
 
 pub returns-then-not-has-2 : goal.returns-then-not-has-2

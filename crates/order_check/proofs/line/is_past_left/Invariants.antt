@@ -1,5 +1,5 @@
-use Rattle.std.proofs.Common.{◌≡◌, drop}
-use Rattle.mro_merge.specs.Steps.{past}
+use Rattle.order_check.proofs.Below.{drop, past}
+use Rattle.std.proofs.Common.{◌≡◌}
 use Rattle.order_check.proofs.line.is_past_left.Given as goal
 
 abbrev pub invariant-loop-place : goal.invariant-loop-place

@@ -1,5 +1,4 @@
-use Rattle.order_check.specs.Hierarchy.{orders}
-use Rattle.order_check.proofs.Tables.{none-known}
+use Rattle.order_check.proofs.Lemmas.{orders, none-known}
 use Rattle.order_check.proofs.orders.all_orders.Goals as goal
 
 pub complete-requires-clause-known : goal.complete-requires-clause-known

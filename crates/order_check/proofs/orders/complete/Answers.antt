@@ -1,7 +1,4 @@
-use Rattle.std.proofs.Common.{length}
-use Rattle.order_check.specs.Hierarchy.{orders}
-use Rattle.order_check.proofs.Knowing.{found-all}
-use Rattle.order_check.proofs.Tables.{orders-length}
+use Rattle.order_check.proofs.Lemmas.{length, orders, found-all, orders-length}
 use Rattle.order_check.proofs.orders.complete.Goals as goal
 
 pub returns-then-not-branch-clause-all : goal.returns-then-not-branch-clause-all

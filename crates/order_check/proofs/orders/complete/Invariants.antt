@@ -1,6 +1,5 @@
-use Rattle.std.proofs.Common.{◌≡◌, length}
-use Rattle.order_check.specs.Hierarchy.{orders}
-use Rattle.order_check.specs.Known.{AreKnown, unknown}
+use Rattle.order_check.proofs.Below.{length, orders, AreKnown, unknown}
+use Rattle.std.proofs.Common.{◌≡◌}
 use Rattle.order_check.proofs.orders.complete.Given as goal
 
 abbrev pub invariant-loop-known : goal.invariant-loop-known

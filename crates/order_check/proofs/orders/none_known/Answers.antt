@@ -1,8 +1,4 @@
-use Rattle.std.proofs.Common.{arith, sym, subst, List, Option, length-append}
-use Rattle.std.specs.Global.{Vec}
-use Rattle.order_check.specs.Hierarchy.{orders}
-use Rattle.order_check.specs.Known.{AllNone}
-use Rattle.order_check.proofs.Tables.{all_none-more}
+use Rattle.order_check.proofs.Lemmas.{arith, sym, subst, List, Option, length-append, Vec, orders, AllNone, all_none-more}
 use Rattle.order_check.proofs.orders.none_known.Goals as goal
 
 pub loop-place-preserved : goal.loop-place-preserved

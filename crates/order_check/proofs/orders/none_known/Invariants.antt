@@ -1,6 +1,5 @@
-use Rattle.std.proofs.Common.{◌≡◌, length}
-use Rattle.order_check.specs.Hierarchy.{orders}
-use Rattle.order_check.specs.Known.{AllNone}
+use Rattle.order_check.proofs.Below.{length, orders, AllNone}
+use Rattle.std.proofs.Common.{◌≡◌}
 use Rattle.order_check.proofs.orders.none_known.Given as goal
 
 abbrev pub invariant-loop-place : goal.invariant-loop-place

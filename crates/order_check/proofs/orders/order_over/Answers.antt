@@ -1,14 +1,4 @@
-use Rattle.std.proofs.Common.{ℕ, List, sym, ap, subst}
-use Rattle.std.specs.Prelude.{option_and_then}
-use Rattle.std.specs.Global.{Vec}
-use Rattle.class_model.specs.Order.{least_order}
-use Rattle.mro_merge.specs.Merge.{AreLinesOf, IsApart}
-use Rattle.order_check.specs.Lists.{rows}
-use Rattle.order_check.specs.Hierarchy.{orders}
-use Rattle.order_check.specs.Known.{known_in}
-use Rattle.order_check.proofs.Gathered.{read-all, read-without}
-use Rattle.order_check.proofs.Knowing.{known-lines, known-apart}
-use Rattle.order_check.proofs.Telling.{first_without-none}
+use Rattle.order_check.proofs.Lemmas.{ℕ, List, sym, ap, subst, option_and_then, Vec, least_order, AreLinesOf, IsApart, rows, orders, known_in, read-all, read-without, known-lines, known-apart, first_without-none}
 use Rattle.order_check.proofs.orders.order_over.Goals as goal
 
 pub least_order-requires-clause-lines : goal.least_order-requires-clause-lines

@@ -1,8 +1,5 @@
-use Rattle.std.proofs.Common.{◌+◌, ◌<◌, List, Option, sym, ap, subst, ◌∙◌, arith}
-use Rattle.std.specs.Global.{Vec}
-use Rattle.order_check.specs.Hierarchy.{orders}
-use Rattle.order_check.specs.Known.{IsClosedTo, unknown}
-use Rattle.order_check.proofs.Tables.{closed-none, closed-more}
+use Rattle.order_check.proofs.Lemmas.{List, Option, sym, ap, subst, ◌∙◌, arith, Vec, orders, IsClosedTo, unknown, closed-none, closed-more}
+use Rattle.std.proofs.Common.{◌+◌, ◌<◌}
 use Rattle.order_check.proofs.orders.try_all.Goals as goal
 use Rattle.order_check.proofs.orders.try_all.Goals.{then-branch, else-branch}
 

@@ -1,6 +1,5 @@
-use Rattle.std.proofs.Common.{◌≡◌, ◌<◌, ◌≤◌, true, false, length}
-use Rattle.order_check.specs.Hierarchy.{orders}
-use Rattle.order_check.specs.Known.{AreKnown, IsClosedTo, unknown}
+use Rattle.order_check.proofs.Below.{true, false, length, orders, AreKnown, IsClosedTo, unknown}
+use Rattle.std.proofs.Common.{◌≡◌, ◌<◌, ◌≤◌}
 use Rattle.order_check.proofs.orders.try_all.Given as goal
 
 abbrev pub invariant-loop-place : goal.invariant-loop-place

@@ -1,8 +1,5 @@
-use Rattle.std.proofs.Common.{◌<◌, length, sym, ap, ◌∙◌, arith}
-use Rattle.order_check.specs.Hierarchy.{orders}
-use Rattle.order_check.specs.Known.{known_in, over}
-use Rattle.order_check.proofs.Places.{bases-at}
-use Rattle.order_check.proofs.Tables.{items_of, some-closed, none-closed, set-known, set-fewer}
+use Rattle.order_check.proofs.Lemmas.{length, sym, ap, ◌∙◌, arith, orders, known_in, over, bases-at, items_of, some-closed, none-closed, set-known, set-fewer}
+use Rattle.std.proofs.Common.{◌<◌}
 use Rattle.order_check.proofs.orders.try_place.Goals as goal
 
 pub returns-then-is_some-clause-closed : goal.returns-then-is_some-clause-closed

@@ -1,6 +1,5 @@
-use Rattle.std.proofs.Common.{◌≡◌, drop}
-use Rattle.class_model.specs.Order.{is_distinct}
-use Rattle.order_check.specs.Told.{firsts}
+use Rattle.order_check.proofs.Below.{drop, is_distinct, firsts}
+use Rattle.std.proofs.Common.{◌≡◌}
 use Rattle.order_check.proofs.pairs.are_different.Given as goal
 
 abbrev pub invariant-loop-place : goal.invariant-loop-place

@@ -1,5 +1,5 @@
-use Rattle.std.proofs.Common.{◌≡◌, drop}
-use Rattle.order_check.specs.Told.{told_in, lists_told, are_told}
+use Rattle.order_check.proofs.Below.{drop, told_in, lists_told, are_told}
+use Rattle.std.proofs.Common.{◌≡◌}
 use Rattle.order_check.proofs.pairs.are_told.Given as goal
 
 abbrev pub invariant-loop-place : goal.invariant-loop-place

@@ -1,6 +1,5 @@
-use Rattle.std.proofs.Common.{◌≡◌, drop}
-use Rattle.class_model.specs.Order.{has}
-use Rattle.order_check.specs.Told.{firsts}
+use Rattle.order_check.proofs.Below.{drop, has, firsts}
+use Rattle.std.proofs.Common.{◌≡◌}
 use Rattle.order_check.proofs.pairs.has_first.Given as goal
 
 abbrev pub invariant-loop-pair : goal.invariant-loop-pair

@@ -1,5 +1,5 @@
-use Rattle.std.proofs.Common.{◌≡◌, drop}
-use Rattle.order_check.specs.Told.{firsts, is_least}
+use Rattle.order_check.proofs.Below.{drop, firsts, is_least}
+use Rattle.std.proofs.Common.{◌≡◌}
 use Rattle.order_check.proofs.pairs.is_least.Given as goal
 
 abbrev pub invariant-loop-pair : goal.invariant-loop-pair

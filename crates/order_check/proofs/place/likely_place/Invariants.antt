@@ -1,4 +1,5 @@
-use Rattle.std.proofs.Common.{◌-◌, ◌≤◌, length}
+use Rattle.order_check.proofs.Below.{length}
+use Rattle.std.proofs.Common.{◌-◌, ◌≤◌}
 use Rattle.order_check.proofs.place.likely_place.Given as goal
 
 abbrev pub invariant-loop-low : goal.invariant-loop-low

@@ -1,6 +1,4 @@
-use Rattle.std.proofs.Common.{get_or, sym, ap, ◌∙◌}
-use Rattle.order_check.specs.Hierarchy.{name_in}
-use Rattle.order_check.proofs.Places.{name-at, name-none}
+use Rattle.order_check.proofs.Lemmas.{get_or, sym, ap, ◌∙◌, name_in, name-at, name-none}
 use Rattle.order_check.proofs.place.name_of.Goals as goal
 
 pub returns-in-None : goal.returns-in-None

@@ -1,6 +1,4 @@
-use Rattle.std.proofs.Common.{sym, ap, ◌∙◌, arith}
-use Rattle.order_check.specs.WellFormed.{have_ranks}
-use Rattle.order_check.proofs.Ranking.{ranks-decide, ranking-none}
+use Rattle.order_check.proofs.Lemmas.{sym, ap, ◌∙◌, arith, have_ranks, ranks-decide, ranking-none}
 use Rattle.order_check.proofs.ranks.are_apart.Goals as goal
 
 pub loop-next-init : goal.loop-next-init

@@ -1,6 +1,5 @@
-use Rattle.std.proofs.Common.{◌≡◌, ◌+◌, ◌-◌, ◌≤◌, length}
-use Rattle.order_check.specs.Known.{unknown}
-use Rattle.order_check.specs.WellFormed.{IsRanking}
+use Rattle.order_check.proofs.Below.{length, unknown, IsRanking}
+use Rattle.std.proofs.Common.{◌≡◌, ◌+◌, ◌-◌, ◌≤◌}
 use Rattle.order_check.proofs.ranks.are_apart.Given as goal
 
 abbrev pub invariant-loop-next : goal.invariant-loop-next

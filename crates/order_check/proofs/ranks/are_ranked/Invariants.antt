@@ -1,6 +1,5 @@
-use Rattle.std.proofs.Common.{◌≡◌, drop}
-use Rattle.order_check.specs.Known.{known_in}
-use Rattle.order_check.specs.WellFormed.{are_ranked}
+use Rattle.order_check.proofs.Below.{drop, known_in, are_ranked}
+use Rattle.std.proofs.Common.{◌≡◌}
 use Rattle.order_check.proofs.ranks.are_ranked.Given as goal
 
 abbrev pub invariant-loop-base : goal.invariant-loop-base

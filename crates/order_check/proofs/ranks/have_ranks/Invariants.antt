@@ -1,5 +1,5 @@
-use Rattle.std.proofs.Common.{◌≡◌, drop}
-use Rattle.order_check.specs.WellFormed.{have_ranks}
+use Rattle.order_check.proofs.Below.{drop, have_ranks}
+use Rattle.std.proofs.Common.{◌≡◌}
 use Rattle.order_check.proofs.ranks.have_ranks.Given as goal
 
 abbrev pub invariant-loop-rank : goal.invariant-loop-rank

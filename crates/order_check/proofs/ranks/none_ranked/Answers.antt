@@ -1,5 +1,4 @@
-use Rattle.std.proofs.Common.{arith, length-append}
-use Rattle.order_check.proofs.Ranking.{unknown-push}
+use Rattle.order_check.proofs.Lemmas.{arith, length-append, unknown-push}
 use Rattle.order_check.proofs.ranks.none_ranked.Goals as goal
 
 pub loop-place-preserved : goal.loop-place-preserved

@@ -1,5 +1,5 @@
-use Rattle.std.proofs.Common.{◌≡◌, length}
-use Rattle.order_check.specs.Known.{unknown}
+use Rattle.order_check.proofs.Below.{length, unknown}
+use Rattle.std.proofs.Common.{◌≡◌}
 use Rattle.order_check.proofs.ranks.none_ranked.Given as goal
 
 abbrev pub invariant-loop-place : goal.invariant-loop-place

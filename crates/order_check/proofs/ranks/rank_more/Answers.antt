@@ -1,7 +1,5 @@
-use Rattle.std.proofs.Common.{◌+◌, ℕ, List, Option, sym, ap, subst, ◌∙◌, arith}
-use Rattle.order_check.specs.Known.{unknown}
-use Rattle.order_check.specs.WellFormed.{IsRanking, IsStuckTo}
-use Rattle.order_check.proofs.Ranking.{stuck-none, stuck-more}
+use Rattle.order_check.proofs.Lemmas.{ℕ, List, Option, sym, ap, subst, ◌∙◌, arith, unknown, IsRanking, IsStuckTo, stuck-none, stuck-more}
+use Rattle.std.proofs.Common.{◌+◌}
 use Rattle.order_check.proofs.ranks.rank_more.Goals as goal
 use Rattle.order_check.proofs.ranks.rank_more.Goals.{then-rank_place, else-rank_place}
 

@@ -1,6 +1,5 @@
-use Rattle.std.proofs.Common.{◌≡◌, ◌+◌, ◌≤◌, length}
-use Rattle.order_check.specs.Known.{unknown}
-use Rattle.order_check.specs.WellFormed.{IsRanking, IsStuckTo}
+use Rattle.order_check.proofs.Below.{length, unknown, IsRanking, IsStuckTo}
+use Rattle.std.proofs.Common.{◌≡◌, ◌+◌, ◌≤◌}
 use Rattle.order_check.proofs.ranks.rank_more.Given as goal
 
 abbrev pub invariant-loop-place : goal.invariant-loop-place

@@ -1,6 +1,4 @@
-use Rattle.std.proofs.Common.{sym, ap, ◌∙◌}
-use Rattle.order_check.specs.Known.{known_in}
-use Rattle.order_check.proofs.Places.{known-at, known-none}
+use Rattle.order_check.proofs.Lemmas.{sym, ap, ◌∙◌, known_in, known-at, known-none}
 use Rattle.order_check.proofs.ranks.rank_of.Goals as goal
 
 pub returns-in-None : goal.returns-in-None

@@ -1,8 +1,5 @@
-use Rattle.std.proofs.Common.{◌≡◌, ◌<◌, Bool, List, Option, ℕ, length, get_or, sym, ap, ◌∙◌, arith}
-use Rattle.order_check.specs.declared.hierarchy.Entry.{Entry}
-use Rattle.order_check.specs.Known.{known_in}
-use Rattle.order_check.specs.WellFormed.{are_ranked}
-use Rattle.order_check.proofs.Ranking.{some-stuck, unranked-stuck, ranking-more, rank-fewer}
+use Rattle.order_check.proofs.Lemmas.{Bool, List, Option, ℕ, length, get_or, sym, ap, ◌∙◌, arith, Entry, known_in, are_ranked, some-stuck, unranked-stuck, ranking-more, rank-fewer}
+use Rattle.std.proofs.Common.{◌≡◌, ◌<◌}
 use Rattle.order_check.proofs.ranks.rank_place.Goals as goal
 
 -- what was tested, of the ranks and the bases

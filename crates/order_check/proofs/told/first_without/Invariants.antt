@@ -1,6 +1,5 @@
-use Rattle.std.proofs.Common.{◌≡◌, drop}
-use Rattle.order_check.specs.Report.{first_without}
-use Rattle.order_check.specs.Told.{told_in}
+use Rattle.order_check.proofs.Below.{drop, first_without, told_in}
+use Rattle.std.proofs.Common.{◌≡◌}
 use Rattle.order_check.proofs.told.first_without.Given as goal
 
 abbrev pub invariant-loop-base : goal.invariant-loop-base

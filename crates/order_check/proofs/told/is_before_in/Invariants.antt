@@ -1,6 +1,5 @@
-use Rattle.std.proofs.Common.{◌≡◌, drop}
-use Rattle.order_check.specs.Cycle.{is_before_in}
-use Rattle.order_check.specs.Told.{told_in, lists_past, lists_told}
+use Rattle.order_check.proofs.Below.{drop, is_before_in, told_in, lists_past, lists_told}
+use Rattle.std.proofs.Common.{◌≡◌}
 use Rattle.order_check.proofs.told.is_before_in.Given as goal
 
 abbrev pub invariant-loop-base : goal.invariant-loop-base

@@ -1,6 +1,5 @@
-use Rattle.std.proofs.Common.{◌≡◌, drop}
-use Rattle.order_check.specs.Report.{list_with}
-use Rattle.order_check.specs.Told.{told_in, lists_past, lists_told}
+use Rattle.order_check.proofs.Below.{drop, list_with, told_in, lists_past, lists_told}
+use Rattle.std.proofs.Common.{◌≡◌}
 use Rattle.order_check.proofs.told.list_with.Given as goal
 
 abbrev pub invariant-loop-base : goal.invariant-loop-base

@@ -1,10 +1,6 @@
-use Rattle.std.proofs.Common.{◌≡◌, ◌-◌, ◌<◌, ℕ, zero, suc, List, ◌∷◌, length, get_or, Option, Some, None, sym, ap, subst, ◌∙◌, arith}
-use Rattle.std.specs.Prelude.{map, IfSome, IfNone}
-use Rattle.order_check.specs.declared.hierarchy.Entry.{Entry}
-use Rattle.order_check.specs.Hierarchy.{keys_of, AreKeyed}
-use Rattle.order_check.specs.Known.{known_in}
-use Rattle.order_check.specs.Told.{order_told, orders_told}
-use Rattle.order_check.proofs.Places.{known-at, known-none}
+use Rattle.order_check.proofs.Lemmas.{ℕ, zero, suc, List, length, get_or, Option, Some, None, sym, ap, subst, ◌∙◌, arith, IfSome, IfNone, Entry, keys_of, AreKeyed, known_in, order_told, orders_told, known-at, known-none}
+use Rattle.std.proofs.Common.{◌≡◌, ◌-◌, ◌<◌, ◌∷◌}
+use Rattle.std.specs.Prelude.{map}
 use Rattle.order_check.proofs.told.order.Goals as goal
 
 told-at : (h : List Entry) (os : List (Option (List ℕ))) (key place : ℕ) → AreKeyed h → place < length h → get_or (keys_of h) place 0 ≡ key → known_in h os key ≡ get_or os place None

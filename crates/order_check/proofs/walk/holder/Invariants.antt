@@ -1,6 +1,5 @@
-use Rattle.std.proofs.Common.{◌≡◌, drop}
-use Rattle.order_check.specs.Lists.{rows}
-use Rattle.order_check.specs.Found.{holder}
+use Rattle.order_check.proofs.Below.{drop, rows, holder}
+use Rattle.std.proofs.Common.{◌≡◌}
 use Rattle.order_check.proofs.walk.holder.Given as goal
 
 abbrev pub invariant-loop-list : goal.invariant-loop-list

@@ -1,5 +1,5 @@
-use Rattle.std.proofs.Common.{◌≡◌, ◌++◌, drop}
-use Rattle.order_check.specs.Found.{up_to}
+use Rattle.order_check.proofs.Below.{drop, up_to}
+use Rattle.std.proofs.Common.{◌≡◌, ◌++◌}
 use Rattle.order_check.proofs.walk.up_to.Given as goal
 
 abbrev pub invariant-loop-other : goal.invariant-loop-other

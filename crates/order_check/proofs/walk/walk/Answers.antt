@@ -1,10 +1,5 @@
-use Rattle.std.proofs.Common.{◌≡◌, ℕ, ◌+◌, ◌-◌, List, ◌∷◌, length, Result, Ok, Err, sym, ap, ◌∙◌, arith}
-use Rattle.std.specs.Prelude.{IfOk}
-use Rattle.std.specs.Global.{Vec}
-use Rattle.class_model.specs.Order.{has}
-use Rattle.order_check.specs.Lists.{rows}
-use Rattle.order_check.specs.Found.{up_to, walk}
-use Rattle.order_check.proofs.Stepped.{walk-back, walk-on, walk-end}
+use Rattle.order_check.proofs.Lemmas.{ℕ, List, length, Result, Ok, Err, sym, ap, ◌∙◌, arith, IfOk, Vec, has, rows, up_to, walk, walk-back, walk-on, walk-end}
+use Rattle.std.proofs.Common.{◌≡◌, ◌+◌, ◌-◌, ◌∷◌}
 use Rattle.order_check.proofs.walk.walk.Goals as goal
 
 as_said : {E : Type 0} (r : Result (Vec ℕ) E) (xs ys : List ℕ) → xs ≡ ys → IfOk r (λ v. v.items ≡ xs) → IfOk r (λ v. v.items ≡ ys)

@@ -1,6 +1,5 @@
-use Rattle.std.proofs.Common.{◌≡◌, ◌-◌, [], length}
-use Rattle.order_check.specs.Lists.{rows}
-use Rattle.order_check.specs.Found.{walk}
+use Rattle.order_check.proofs.Below.{[], length, rows, walk}
+use Rattle.std.proofs.Common.{◌≡◌, ◌-◌}
 use Rattle.order_check.proofs.walk.walk.Given as goal
 
 abbrev pub invariant-loop-step : goal.invariant-loop-step

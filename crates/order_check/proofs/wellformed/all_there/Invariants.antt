@@ -1,6 +1,5 @@
-use Rattle.std.proofs.Common.{◌≡◌, drop}
-use Rattle.order_check.specs.Hierarchy.{keys_of}
-use Rattle.order_check.specs.WellFormed.{all_within}
+use Rattle.order_check.proofs.Below.{drop, keys_of, all_within}
+use Rattle.std.proofs.Common.{◌≡◌}
 use Rattle.order_check.proofs.wellformed.all_there.Given as goal
 
 abbrev pub invariant-loop-entry : goal.invariant-loop-entry

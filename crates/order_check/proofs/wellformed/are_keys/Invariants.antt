@@ -1,6 +1,5 @@
-use Rattle.std.proofs.Common.{◌≡◌, drop}
-use Rattle.class_model.specs.Order.{is_within}
-use Rattle.order_check.specs.Hierarchy.{keys_of}
+use Rattle.order_check.proofs.Below.{drop, is_within, keys_of}
+use Rattle.std.proofs.Common.{◌≡◌}
 use Rattle.order_check.proofs.wellformed.are_keys.Given as goal
 
 abbrev pub invariant-loop-base : goal.invariant-loop-base

@@ -1,5 +1,4 @@
-use Rattle.std.proofs.Common.{sym, ◌∙◌}
-use Rattle.order_check.proofs.WellFounded.{there-decided}
+use Rattle.order_check.proofs.Lemmas.{sym, ◌∙◌, there-decided}
 use Rattle.order_check.proofs.wellformed.are_there.Goals as goal
 
 pub returns : goal.returns

@@ -1,6 +1,4 @@
-use Rattle.std.proofs.Common.{sym}
-use Rattle.order_check.specs.Hierarchy.{keys_of}
-use Rattle.order_check.proofs.WellFounded.{not-has, is-held}
+use Rattle.order_check.proofs.Lemmas.{sym, keys_of, not-has, is-held}
 use Rattle.order_check.proofs.wellformed.is_key.Goals as goal
 
 pub returns-in-None : goal.returns-in-None

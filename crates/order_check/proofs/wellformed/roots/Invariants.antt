@@ -1,5 +1,5 @@
-use Rattle.std.proofs.Common.{◌≡◌, ◌+◌, ◌≤◌, drop}
-use Rattle.order_check.specs.WellFormed.{roots}
+use Rattle.order_check.proofs.Below.{drop, roots}
+use Rattle.std.proofs.Common.{◌≡◌, ◌+◌, ◌≤◌}
 use Rattle.order_check.proofs.wellformed.roots.Given as goal
 
 abbrev pub invariant-loop-entry : goal.invariant-loop-entry

@@ -1,8 +1,5 @@
-use Rattle.std.proofs.Common.{◌≤◌, List, sym, subst, ◌∙◌, arith}
-use Rattle.std.proofs.lemmas.Bool.{false≢true}
-use Rattle.order_check.specs.declared.hierarchy.Entry.{Entry}
-use Rattle.order_check.specs.WellFormed.{AreThere, roots}
-use Rattle.order_check.proofs.WellFounded.{formed-of}
+use Rattle.order_check.proofs.Lemmas.{List, sym, subst, ◌∙◌, arith, false≢true, Entry, AreThere, roots, formed-of}
+use Rattle.std.proofs.Common.{◌≤◌}
 use Rattle.order_check.proofs.wellformed.well_formed.Goals as goal
 
 pub returns-then-not-are_there : goal.returns-then-not-are_there

@@ -1,6 +1,5 @@
 -- Each read goes on from what has been read so far.
-use Rattle.std.proofs.Common.{arith, length-take}
-use Rattle.outside.proofs.SoFar.{one_more, all_read, none_left, within_limit}
+use Rattle.outside.proofs.Lemmas.{arith, length-take, one_more, all_read, none_left, within_limit}
 use Rattle.outside.proofs.read_all.read_all.Goals as goal
 
 pub loop-bytes-preserved : goal.loop-bytes-preserved

@@ -1,5 +1,6 @@
 -- What has been read is a front of what the source had, and the rest is left.
-use Rattle.std.proofs.Common.{◌≡◌, ◌+◌, ◌-◌, ◌^◌, ◌≤◌, vec_len}
+use Rattle.outside.proofs.Below.{vec_len}
+use Rattle.std.proofs.Common.{◌≡◌, ◌+◌, ◌-◌, ◌^◌, ◌≤◌}
 use Rattle.outside.proofs.SoFar.{SoFar}
 use Rattle.outside.proofs.read_all.read_all.Given as goal
 

@@ -1,7 +1,5 @@
 -- Words that are neither one, two nor three ask for nothing.
-use Rattle.std.proofs.Common.{arith, map, string_bytes}
-use Rattle.std.proofs.lemmas.List.{length-map}
-use Rattle.outside.proofs.NoJob.{no_job}
+use Rattle.outside.proofs.Lemmas.{arith, map, string_bytes, length-map, no_job}
 use Rattle.outside.proofs.words.job_of.Goals as goal
 
 pub returns-in_default-clause-job : goal.returns-in_default-clause-job

@@ -1,7 +1,5 @@
 -- What isn't read as 64 bits is no number in range.
-use Rattle.std.proofs.Common.{rules, sym, ◌∙◌, ap, arith}
-use Rattle.outside.specs.Words.{is_numeral}
-use Rattle.outside.proofs.Numerals.{too_large}
+use Rattle.outside.proofs.Lemmas.{rules, sym, ◌∙◌, ap, arith, is_numeral, too_large}
 use Rattle.outside.proofs.words.number.Goals as goal
 
 pub returns-in-Err : goal.returns-in-Err

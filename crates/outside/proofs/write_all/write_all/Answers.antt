@@ -1,7 +1,6 @@
 -- A write goes on from the front that is out.
-use Rattle.std.proofs.Common.{arith, ◌≡◌, ◌-◌, ◌<◌, ◌≤◌, ◌∙◌, ap, Some, length, take, drop, length-drop}
-use Rattle.std.proofs.lemmas.List.{take_rest}
-use Rattle.outside.proofs.Pieces.{taken_more}
+use Rattle.outside.proofs.Lemmas.{arith, ◌∙◌, ap, Some, length, take, drop, length-drop, take_rest, taken_more}
+use Rattle.std.proofs.Common.{◌≡◌, ◌-◌, ◌<◌, ◌≤◌}
 use Rattle.outside.proofs.write_all.write_all.Goals as goal
 
 pub loop-at-preserved : goal.loop-at-preserved

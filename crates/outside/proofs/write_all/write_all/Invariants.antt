@@ -1,6 +1,6 @@
 -- As many bytes as `at` have gone out, and the sink is sure of the others where it was sure of all.
-use Rattle.std.proofs.Common.{length, ◌-◌, ◌+◌, ◌≡◌, ◌≤◌, ◌++◌, take, Some}
-use Rattle.std.specs.Option.{ForSome}
+use Rattle.outside.proofs.Below.{length, take, Some, ForSome}
+use Rattle.std.proofs.Common.{◌-◌, ◌+◌, ◌≡◌, ◌≤◌, ◌++◌}
 use Rattle.outside.proofs.write_all.write_all.Given as goal
 
 abbrev pub invariant-loop-at : goal.invariant-loop-at

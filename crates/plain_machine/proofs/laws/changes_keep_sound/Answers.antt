@@ -1,4 +1,4 @@
-use Rattle.plain_machine.proofs.Kept.{keeps-sound}
+use Rattle.plain_machine.proofs.Lemmas.{keeps-sound}
 use Rattle.plain_machine.proofs.laws.changes_keep_sound.Goals as goal
 
 pub returns : goal.returns

@@ -1,15 +1,6 @@
-use Rattle.std.proofs.Common.{◌≡◌, Some, None, Err, refl, sym, ap, ◌∙◌, subst}
+use Rattle.proto_attr.proofs.Lemmas.{Some, None, Err, refl, sym, ap, ◌∙◌, subst, known_text, Ask, End, DoGetAttr, special_at, plain, spelled, Steps, Pass, attribute_say, or_get_attr, by_name, attribute_stands, told, get-attr-said, get-attr-passed}
+use Rattle.std.proofs.Common.{◌≡◌}
 use Rattle.py_node.specs.declared.known.Known.TheVariants as known
-use Rattle.py_node.specs.Known.{known_text}
-use Rattle.py_node.specs.declared.task.Step.TheVariants.{Ask, End}
-use Rattle.plain_machine.specs.Plain.{DoGetAttr}
-use Rattle.plain_machine.specs.Objects.{special_at}
-use Rattle.class_world.specs.Reading.{plain, spelled}
-use Rattle.class_world.specs.Rows.{Steps}
-use Rattle.proto_attr.specs.declared.AttributeKept.TheVariants.{Pass}
-use Rattle.proto_attr.specs.Say.{attribute_say, or_get_attr, by_name}
-use Rattle.proto_attr.specs.Rows.{attribute_stands}
-use Rattle.proto_attr.proofs.OrGetAttr.{told, get-attr-said, get-attr-passed}
 use Rattle.proto_attr.proofs.get_attr.by_get_attr.Goals as goal
 
 pub returns-in-None-clause-goes : goal.returns-in-None-clause-goes

@@ -1,6 +1,4 @@
-use Rattle.class_world.specs.Claims.{of_task}
-use Rattle.class_world.specs.Sound.{IsName, IsNode}
-use Rattle.class_world.proofs.Claims.{all-append}
+use Rattle.proto_attr.proofs.Lemmas.{of_task, IsName, IsNode, all-append}
 use Rattle.proto_attr.proofs.get_attr.get_by_method.Goals as goal
 
 pub returns-clause-safe : goal.returns-clause-safe

@@ -1,4 +1,4 @@
-use Rattle.proto_attr.proofs.Winning.{answer-given, class-last, data-wins, dict-next, neither-has}
+use Rattle.proto_attr.proofs.Lemmas.{answer-given, class-last, data-wins, dict-next, neither-has}
 use Rattle.proto_attr.proofs.laws.laws_of_generic.Goals as goal
 
 pub returns-clause-data : goal.returns-clause-data

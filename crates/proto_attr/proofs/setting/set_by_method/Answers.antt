@@ -1,4 +1,4 @@
-use Rattle.class_world.specs.Sound.{IsNode}
+use Rattle.proto_attr.proofs.Lemmas.{IsNode}
 use Rattle.proto_attr.proofs.setting.set_by_method.Goals as goal
 
 pub returns-in_ok-args-in-Assign-clause-safe : goal.returns-in_ok-args-in-Assign-clause-safe

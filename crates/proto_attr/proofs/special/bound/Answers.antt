@@ -1,4 +1,4 @@
-use Rattle.proto_attr.proofs.Nodes.{first-node}
+use Rattle.proto_attr.proofs.Lemmas.{first-node}
 use Rattle.proto_attr.proofs.special.bound.Goals as goal
 
 pub returns-clause-holds : goal.returns-clause-holds

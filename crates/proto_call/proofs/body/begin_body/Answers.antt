@@ -1,6 +1,4 @@
-use Rattle.std.proofs.Common.{Some}
-use Rattle.class_world.proofs.Stored.{ok-map}
-use Rattle.proto_call.proofs.Entered.{body-begins}
+use Rattle.proto_call.proofs.Lemmas.{Some, ok-map, body-begins}
 use Rattle.proto_call.proofs.body.begin_body.Goals as goal
 
 pub returns-in-Some-clause-goes : goal.returns-in-Some-clause-goes

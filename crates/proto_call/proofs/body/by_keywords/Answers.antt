@@ -1,9 +1,4 @@
-use Rattle.std.proofs.Common.{◌∙◌}
-use Rattle.class_world.specs.Reading.{Reading, Reads, plain}
-use Rattle.class_world.proofs.Stored.{ok-map}
-use Rattle.proto_call.specs.Bodies.{opened_of, by_keywords_of}
-use Rattle.proto_call.proofs.Filling.{values-there}
-use Rattle.proto_call.proofs.Entered.{enters-by, filled-opens}
+use Rattle.proto_call.proofs.Lemmas.{◌∙◌, Reading, Reads, plain, ok-map, opened_of, by_keywords_of, values-there, enters-by, filled-opens}
 use Rattle.proto_call.proofs.body.by_keywords.Goals as goal
 
 pub opened-requires-clause-vars : goal.opened-requires-clause-vars

@@ -1,11 +1,5 @@
-use Rattle.std.proofs.Common.{◌≡◌, true, sym, ap, ◌∙◌, rules}
-use Rattle.class_world.specs.Reading.{Reading, Reads, plain}
-use Rattle.class_world.specs.Sound.{of_binding, of_each}
-use Rattle.class_world.proofs.Claims.{all-grow}
-use Rattle.class_world.proofs.Stored.{ok-map}
-use Rattle.proto_call.specs.Say.{is_empty}
-use Rattle.proto_call.specs.Bodies.{by_keywords_of, by_place_of}
-use Rattle.proto_call.proofs.Entered.{enters-by, rest-fills, all-fill, empty-is}
+use Rattle.proto_call.proofs.Lemmas.{true, sym, ap, ◌∙◌, rules, Reading, Reads, plain, of_binding, of_each, all-grow, ok-map, is_empty, by_keywords_of, by_place_of, enters-by, rest-fills, all-fill, empty-is}
+use Rattle.std.proofs.Common.{◌≡◌}
 use Rattle.proto_call.proofs.body.by_place.Goals as goal
 
 pub by_keywords-requires-clause-kw : goal.by_keywords-requires-clause-kw

@@ -1,9 +1,6 @@
-use Rattle.std.proofs.Common.{◌-◌, length, arith, get_or}
-use Rattle.class_world.specs.Reading.{spelled}
-use Rattle.py_node.specs.declared.refs.PyStrInterned.{PyStrInterned}
-use Rattle.proto_call.proofs.Entered.{last-read}
+use Rattle.proto_call.proofs.Lemmas.{length, arith, get_or, spelled, PyStrInterned, last-read, last-in, same-at}
+use Rattle.std.proofs.Common.{◌-◌}
 use Rattle.class_world.proofs.Filled.{name-at}
-use Rattle.proto_call.proofs.Filling.{last-in, same-at}
 use Rattle.proto_call.proofs.body.last_name.Goals as goal
 
 pub returns-in-len1-up-clause-spelled : goal.returns-in-len1-up-clause-spelled

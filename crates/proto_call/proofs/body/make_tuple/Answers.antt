@@ -1,4 +1,4 @@
-use Rattle.py_node.specs.BuiltIns.{place_of}
+use Rattle.proto_call.proofs.Lemmas.{place_of}
 use Rattle.proto_call.proofs.body.make_tuple.Goals as goal
 
 pub returns-clause-made : goal.returns-clause-made

@@ -1,9 +1,4 @@
-use Rattle.std.proofs.Common.{◌∙◌}
-use Rattle.py_node.specs.Attributes.{is_same_name}
-use Rattle.class_world.specs.Reading.{plain}
-use Rattle.class_world.proofs.Bound.{value-holds}
-use Rattle.class_world.proofs.Stored.{ok-map}
-use Rattle.proto_call.proofs.Entered.{some-holds, shown-read}
+use Rattle.proto_call.proofs.Lemmas.{◌∙◌, is_same_name, plain, value-holds, ok-map, some-holds, shown-read}
 use Rattle.proto_call.proofs.body.shown.Goals as goal
 
 pub value_text-requires : goal.value_text-requires

@@ -1,11 +1,4 @@
-use Rattle.std.proofs.Common.{map, string_bytes, get_or, ap, ◌∙◌, arith}
-use Rattle.std.proofs.lemmas.List.{take_all}
-use Rattle.py_node.specs.declared.refs.PyStrInterned.{PyStrInterned}
-use Rattle.class_world.specs.Reading.{spelled, bindings, plain}
-use Rattle.class_world.proofs.Stored.{map-next}
-use Rattle.proto_call.specs.Say.{shown}
-use Rattle.proto_call.proofs.Entered.{texts-read}
-use Rattle.proto_call.proofs.Filling.{same-at}
+use Rattle.proto_call.proofs.Lemmas.{map, string_bytes, get_or, ap, ◌∙◌, arith, take_all, PyStrInterned, spelled, bindings, plain, map-next, shown, texts-read, same-at}
 use Rattle.proto_call.proofs.body.texts.Goals as goal
 
 pub loop-param-preserved : goal.loop-param-preserved

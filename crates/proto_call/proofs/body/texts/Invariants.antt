@@ -1,6 +1,5 @@
-use Rattle.std.proofs.Common.{◌≡◌, map, take, string_bytes}
-use Rattle.class_world.specs.Reading.{Reading, spelled, bindings, plain}
-use Rattle.proto_call.specs.Say.{shown}
+use Rattle.proto_call.proofs.Below.{map, take, string_bytes, Reading, spelled, bindings, plain, shown}
+use Rattle.std.proofs.Common.{◌≡◌}
 use Rattle.proto_call.proofs.body.texts.Given as goal
 
 abbrev pub invariant-loop-param : goal.invariant-loop-param

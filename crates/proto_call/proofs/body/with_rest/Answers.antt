@@ -1,11 +1,4 @@
-use Rattle.std.proofs.Common.{[], ap, ◌∙◌}
-use Rattle.py_node.specs.Attributes.{with_value}
-use Rattle.plain_machine.specs.World.{is_text, next_node}
-use Rattle.class_world.specs.Sound.{AreNames, AreNodes, IsName}
-use Rattle.class_world.proofs.Bound.{with_value-read, with_value-holds}
-use Rattle.plain_machine.specs.Known.{the_tuple}
-use Rattle.plain_machine.specs.Args.{filled}
-use Rattle.proto_call.proofs.Filling.{last-given}
+use Rattle.proto_call.proofs.Lemmas.{[], ap, ◌∙◌, with_value, is_text, next_node, AreNames, AreNodes, IsName, with_value-read, with_value-holds, the_tuple, filled, last-given}
 use Rattle.proto_call.proofs.body.with_rest.Goals as goal
 
 pub returns-clause-vars : goal.returns-clause-vars

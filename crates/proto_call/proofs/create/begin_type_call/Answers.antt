@@ -1,7 +1,5 @@
-use Rattle.std.proofs.Common.{◌∷◌, refl}
-use Rattle.class_world.specs.Sound.{IsClass}
-use Rattle.class_world.specs.Claims.{of_args, of_task}
-use Rattle.class_world.proofs.Claims.{all-append}
+use Rattle.proto_call.proofs.Lemmas.{refl, IsClass, of_args, of_task, all-append}
+use Rattle.std.proofs.Common.{◌∷◌}
 use Rattle.proto_call.proofs.create.begin_type_call.Goals as goal
 
 pub returns-clause-safe : goal.returns-clause-safe

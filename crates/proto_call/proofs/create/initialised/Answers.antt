@@ -1,6 +1,5 @@
-use Rattle.std.proofs.Common.{[], ◌∷◌, refl}
-use Rattle.class_world.specs.Sound.{IsNode, of_each, of_binding}
-use Rattle.class_world.proofs.Claims.{all-append}
+use Rattle.proto_call.proofs.Lemmas.{[], refl, IsNode, of_each, of_binding, all-append}
+use Rattle.std.proofs.Common.{◌∷◌}
 use Rattle.proto_call.proofs.create.initialised.Goals as goal
 
 pub returns-else-is_answer-clause-safe : goal.returns-else-is_answer-clause-safe

@@ -1,5 +1,4 @@
-use Rattle.class_world.specs.Reading.{bindings}
-use Rattle.proto_call.specs.Say.{call_job_say}
+use Rattle.proto_call.proofs.Lemmas.{bindings, call_job_say}
 use Rattle.proto_call.proofs.object.begin_object.Goals as goal
 
 pub returns-clause-goes : goal.returns-clause-goes

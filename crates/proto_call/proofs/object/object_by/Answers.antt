@@ -1,9 +1,5 @@
-use Rattle.std.proofs.Common.{IfOk, refl, sym, subst}
-use Rattle.class_world.specs.Reading.{bindings}
-use Rattle.py_node.specs.declared.entry.ObjectNative.TheVariants.{New, Init, InitSubclass}
-use Rattle.proto_call.specs.Say.{object_by, object_new, object_init, object_init_subclass}
-use Rattle.proto_call.specs.Rows.{Does}
-use Rattle.proto_call.proofs.Decide.{does-after, does}
+use Rattle.proto_call.proofs.Lemmas.{refl, sym, subst, bindings, New, Init, InitSubclass, object_by, object_new, object_init, object_init_subclass, Does, does-after, does}
+use Rattle.std.proofs.Common.{IfOk}
 use Rattle.proto_call.proofs.object.object_by.Goals as goal
 
 pub returns-in-New-clause-goes : goal.returns-in-New-clause-goes

@@ -1,6 +1,5 @@
-use Rattle.std.proofs.Common.{◌≡◌, Some, ap, arith}
-use Rattle.py_node.specs.BuiltIns.{place_of}
-use Rattle.py_node.specs.declared.built_in.BuiltIn.TheVariants.{Object}
+use Rattle.proto_call.proofs.Lemmas.{Some, ap, arith, place_of, Object}
+use Rattle.std.proofs.Common.{◌≡◌}
 use Rattle.proto_call.proofs.object.object_new.Goals as goal
 
 pub make_node-requires-clause-of : goal.make_node-requires-clause-of

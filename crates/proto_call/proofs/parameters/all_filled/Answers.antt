@@ -1,10 +1,4 @@
-use Rattle.std.proofs.Common.{rules, tests, sym, ◌∙◌}
-use Rattle.std.proofs.lemmas.Iterator.{YieldsList-from_slice}
-use Rattle.std.proofs.lemmas.Iterator.Search.{all_from_yields_List}
-use Rattle.py_node.specs.declared.refs.PyStrInterned.{PyStrInterned}
-use Rattle.class_world.specs.Sound.{has_value}
-use Rattle.std.proofs.lemmas.List.Sums.{AllPass-from_list_all}
-use Rattle.proto_call.proofs.Filling.{all_filled-read}
+use Rattle.proto_call.proofs.Lemmas.{rules, tests, sym, ◌∙◌, YieldsList-from_slice, all_from_yields_List, PyStrInterned, has_value, AllPass-from_list_all, all_filled-read}
 use Rattle.proto_call.proofs.parameters.all_filled.Goals as goal
 
 pub returns-clause-filled : goal.returns-clause-filled

@@ -1,5 +1,4 @@
-use Rattle.std.proofs.Common.{sym, ◌∙◌}
-use Rattle.proto_call.proofs.Filling.{is_member-read}
+use Rattle.proto_call.proofs.Lemmas.{sym, ◌∙◌, is_member-read}
 use Rattle.proto_call.proofs.parameters.is_member.Goals as goal
 
 pub returns : goal.returns

@@ -1,6 +1,4 @@
-use Rattle.std.proofs.Common.{map, ◌∙◌}
-use Rattle.class_world.specs.Reading.{spelled}
-use Rattle.proto_call.proofs.Filling.{open-read}
+use Rattle.proto_call.proofs.Lemmas.{map, ◌∙◌, spelled, open-read}
 use Rattle.proto_call.proofs.parameters.is_open.Goals as goal
 
 pub returns-then-is_member : goal.returns-then-is_member

@@ -1,6 +1,4 @@
-use Rattle.std.proofs.lemmas.List.{take_rest}
-use Rattle.class_world.specs.Reading.{spelled}
-use Rattle.proto_call.proofs.Filling.{left_over-read, nodes-drop}
+use Rattle.proto_call.proofs.Lemmas.{take_rest, spelled, left_over-read, nodes-drop}
 use Rattle.proto_call.proofs.parameters.left_over.Goals as goal
 
 pub returns-clause-items : goal.returns-clause-items

@@ -1,6 +1,5 @@
-use Rattle.std.proofs.Common.{◌-◌, length, refl}
-use Rattle.class_world.specs.Reading.{spelled}
-use Rattle.proto_call.proofs.Filling.{but_last-read, but_last-take, names-take}
+use Rattle.proto_call.proofs.Lemmas.{length, refl, spelled, but_last-read, but_last-take, names-take}
+use Rattle.std.proofs.Common.{◌-◌}
 use Rattle.proto_call.proofs.parameters.single.Goals as goal
 
 pub returns-in-len1-up-clause-names : goal.returns-in-len1-up-clause-names

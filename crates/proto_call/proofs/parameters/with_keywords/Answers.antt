@@ -1,10 +1,4 @@
-use Rattle.std.proofs.Common.{map, get_or, sym, ◌∙◌, add-one}
-use Rattle.py_node.specs.declared.refs.PyObjectRef.{PyObjectRef}
-use Rattle.py_node.specs.declared.refs.PyStrInterned.{PyStrInterned}
-use Rattle.class_world.specs.Reading.{spelled}
-use Rattle.class_world.proofs.Apart.{value-with}
-use Rattle.class_world.proofs.Bound.{with_value-holds}
-use Rattle.proto_call.proofs.Filling.{keyword-next, binding-at, same-at}
+use Rattle.proto_call.proofs.Lemmas.{map, get_or, sym, ◌∙◌, add-one, PyObjectRef, PyStrInterned, spelled, value-with, with_value-holds, keyword-next, binding-at, same-at}
 use Rattle.proto_call.proofs.parameters.with_keywords.Goals as goal
 
 pub loop-name-preserved : goal.loop-name-preserved

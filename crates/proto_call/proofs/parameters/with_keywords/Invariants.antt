@@ -1,9 +1,5 @@
-use Rattle.std.proofs.Common.{◌≡◌, true, map, drop}
-use Rattle.py_node.specs.declared.refs.PyStrInterned.{PyStrInterned}
-use Rattle.class_world.specs.Held.{Held}
-use Rattle.class_world.specs.Reading.{Reading, spelled, bindings}
-use Rattle.class_world.specs.Sound.{AllHold, has_value, of_binding, of_each}
-use Rattle.proto_call.specs.Say.{with_keywords}
+use Rattle.proto_call.proofs.Below.{true, map, drop, PyStrInterned, Held, Reading, spelled, bindings, AllHold, has_value, of_binding, of_each, with_keywords}
+use Rattle.std.proofs.Common.{◌≡◌}
 use Rattle.proto_call.proofs.parameters.with_keywords.Given as goal
 
 abbrev pub invariant-loop-name : goal.invariant-loop-name

@@ -1,5 +1,4 @@
-use Rattle.std.proofs.Common.{◌∙◌, Ok, sym, ap, subst}
-use Rattle.proto_call.specs.declared.CallKept.TheVariants.{Unequal}
+use Rattle.proto_call.proofs.Lemmas.{◌∙◌, Ok, sym, ap, subst, Unequal}
 use Rattle.proto_call.specs.Rows.{Resumes}
 use Rattle.proto_call.proofs.texts.equal_given.Goals as goal
 

@@ -1,8 +1,5 @@
-use Rattle.std.proofs.Common.{[], ◌∷◌, refl, sym, ◌∙◌}
-use Rattle.plain_machine.specs.Plain.{Answered}
-use Rattle.class_world.specs.Reading.{plain}
-use Rattle.proto_call.specs.Say.{call_job_say}
-use Rattle.proto_call.proofs.Unequal.{turned-asks}
+use Rattle.proto_call.proofs.Lemmas.{[], refl, sym, ◌∙◌, Answered, plain, call_job_say, turned-asks}
+use Rattle.std.proofs.Common.{◌∷◌}
 use Rattle.proto_call.proofs.texts.turned.Goals as goal
 
 pub returns-else-is_not_implemented-clause-goes : goal.returns-else-is_not_implemented-clause-goes

@@ -1,7 +1,5 @@
-use Rattle.std.proofs.Common.{[], ◌∷◌}
-use Rattle.class_world.specs.Claims.{of_task}
-use Rattle.class_world.specs.Sound.{IsNode}
-use Rattle.class_world.proofs.Claims.{all-append}
+use Rattle.proto_object.proofs.Lemmas.{[], of_task, IsNode, all-append}
+use Rattle.std.proofs.Common.{◌∷◌}
 use Rattle.proto_object.proofs.classes.has_bases.Goals as goal
 
 pub returns-in-Ok-Value-clause-safe : goal.returns-in-Ok-Value-clause-safe

@@ -1,8 +1,4 @@
-use Rattle.std.proofs.Common.{[], ap, sym, ◌∙◌}
-use Rattle.class_world.specs.Reading.{bindings, plain}
-use Rattle.native_objects.specs.Attributes.{keyed}
-use Rattle.proto_object.specs.Texts.{names_made, other_keys}
-use Rattle.proto_object.proofs.Named.{dir-ends, dir-said}
+use Rattle.proto_object.proofs.Lemmas.{[], ap, sym, ◌∙◌, bindings, plain, keyed, names_made, other_keys, dir-ends, dir-said}
 use Rattle.proto_object.proofs.names.begin_dir.Goals as goal
 
 pub returns-clause-goes : goal.returns-clause-goes

@@ -1,7 +1,4 @@
-use Rattle.std.proofs.Common.{Some, ap, sym, ◌∙◌}
-use Rattle.std.specs.Prelude.{is_some, slice_get, string_bytes}
-use Rattle.class_world.specs.Reading.{bindings, datum, plain}
-use Rattle.proto_object.proofs.Named.{no-name, one-name, other-no-name, text-named}
+use Rattle.proto_object.proofs.Lemmas.{Some, ap, sym, ◌∙◌, is_some, slice_get, string_bytes, bindings, datum, plain, no-name, one-name, other-no-name, text-named}
 use Rattle.proto_object.proofs.names.has_name.Goals as goal
 
 pub returns-in-None : goal.returns-in-None

@@ -1,17 +1,6 @@
-use Rattle.std.proofs.Common.{◌≡◌, ◌++◌, [], ap, sym, subst, rules, ◌∙◌}
-use Rattle.py_node.specs.BuiltIns.{place_of}
+use Rattle.proto_object.proofs.Lemmas.{[], ap, sym, subst, rules, ◌∙◌, place_of, the_list, AList, bindings, datum, plain, AreNodes, Holds, grows-on, sized_made, keys_of, nodes-append, keyed, ends-then, names_made}
+use Rattle.std.proofs.Common.{◌≡◌, ◌++◌}
 use Rattle.py_node.specs.declared.payload.Payload.TheVariants as payload
-use Rattle.plain_machine.specs.Known.{the_list}
-use Rattle.plain_machine.specs.Plain.{AList}
-use Rattle.class_world.specs.Reading.{bindings, datum, plain}
-use Rattle.class_world.specs.Sound.{AreNodes, Holds}
-use Rattle.class_world.proofs.Growth.{grows-on}
-use Rattle.native_base.specs.Say.{sized_made}
-use Rattle.native_containers.specs.Say.{keys_of}
-use Rattle.native_containers.proofs.Payloads.{nodes-append}
-use Rattle.native_objects.specs.Attributes.{keyed}
-use Rattle.native_objects.proofs.Ended.{ends-then}
-use Rattle.proto_object.specs.Texts.{names_made}
 use Rattle.proto_object.proofs.names.new_names.Goals as goal
 
 pub new_sized-requires-clause-holds : goal.new_sized-requires-clause-holds

@@ -1,8 +1,5 @@
-use Rattle.std.proofs.Common.{◌+◌, ◌++◌, true, false, refl, ap, sym, subst}
-use Rattle.class_world.specs.Reading.{bindings, plain}
-use Rattle.class_world.proofs.Claims.{no-nodes}
-use Rattle.proto_object.specs.Texts.{other_keys}
-use Rattle.proto_object.proofs.Named.{AreOthers, node-at, others-more, others-same}
+use Rattle.proto_object.proofs.Lemmas.{true, false, refl, ap, sym, subst, bindings, plain, no-nodes, other_keys, AreOthers, node-at, others-more, others-same}
+use Rattle.std.proofs.Common.{◌+◌, ◌++◌}
 use Rattle.proto_object.proofs.names.other_keys.Goals as goal
 use Rattle.proto_object.proofs.names.other_keys.Goals.{then-not-has_name+in_ok-push, else-not-has_name}
 

@@ -1,7 +1,5 @@
-use Rattle.std.proofs.Common.{◌≡◌, ◌++◌, filter, not, drop}
-use Rattle.class_world.specs.Reading.{Reading, Reads, bindings, plain}
-use Rattle.class_world.specs.Sound.{AreNodes, Holds}
-use Rattle.proto_object.specs.Texts.{has_name, other_keys}
+use Rattle.proto_object.proofs.Below.{filter, not, drop, Reading, Reads, bindings, plain, AreNodes, Holds, has_name, other_keys}
+use Rattle.std.proofs.Common.{◌≡◌, ◌++◌}
 use Rattle.proto_object.proofs.names.other_keys.Given as goal
 
 abbrev pub invariant-loop-key : goal.invariant-loop-key

@@ -1,9 +1,4 @@
-use Rattle.std.proofs.Common.{ap, sym, subst, ◌∙◌}
-use Rattle.class_world.specs.Reading.{plain}
-use Rattle.class_world.specs.Sound.{AreNodes, Holds}
-use Rattle.native_containers.specs.Say.{keys_of}
-use Rattle.class_world.proofs.Claims.{no-nodes}
-use Rattle.proto_object.specs.Texts.{own_keys}
+use Rattle.proto_object.proofs.Lemmas.{ap, sym, subst, ◌∙◌, plain, AreNodes, Holds, keys_of, no-nodes, own_keys}
 use Rattle.proto_object.proofs.names.own_keys.Goals as goal
 
 pub returns-in_ok-keys-in-Some-clause-keys : goal.returns-in_ok-keys-in-Some-clause-keys

@@ -1,7 +1,5 @@
-use Rattle.std.proofs.Common.{[], ◌∷◌}
-use Rattle.class_world.specs.Claims.{of_task}
-use Rattle.class_world.specs.Sound.{IsNode}
-use Rattle.class_world.proofs.Claims.{all-append}
+use Rattle.proto_object.proofs.Lemmas.{[], of_task, IsNode, all-append}
+use Rattle.std.proofs.Common.{◌∷◌}
 use Rattle.proto_object.proofs.subclasses.begin_derived.Goals as goal
 
 pub returns-else-d-c-clause-safe : goal.returns-else-d-c-clause-safe

@@ -1,4 +1,4 @@
-use Rattle.class_world.proofs.Claims.{no-nodes}
+use Rattle.proto_object.proofs.Lemmas.{no-nodes}
 use Rattle.proto_object.proofs.texts.begin_str.Goals as goal
 
 pub special-task-requires-clause-args : goal.special-task-requires-clause-args

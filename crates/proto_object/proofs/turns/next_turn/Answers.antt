@@ -1,8 +1,5 @@
-use Rattle.std.proofs.Common.{◌≡◌, ◌+◌, drop, false, Ok, rules, subst, sym}
-use Rattle.py_node.specs.declared.task.Answer.TheVariants.{Truth}
-use Rattle.proto_object.specs.declared.ObjectKept.TheVariants.{Each}
-use Rattle.proto_object.specs.Rows.{Resumes, turn_step}
-use Rattle.proto_object.proofs.InTurn.{next-goes}
+use Rattle.proto_object.proofs.Lemmas.{drop, false, Ok, rules, subst, sym, Truth, Each, Resumes, turn_step, next-goes}
+use Rattle.std.proofs.Common.{◌≡◌, ◌+◌}
 use Rattle.proto_object.proofs.turns.next_turn.Goals as goal
 
 pub returns-in-Ok-Truth-false-clause-goes : goal.returns-in-Ok-Truth-false-clause-goes

@@ -1,11 +1,6 @@
-use Rattle.std.proofs.Common.{◌≡◌, ◌+◌, ap, sym, ◌∙◌, Some, None}
-use Rattle.std.specs.Prelude.{slice_get}
-use Rattle.py_node.specs.declared.task.Step.TheVariants.{Ask}
+use Rattle.proto_object.proofs.Lemmas.{ap, sym, ◌∙◌, Some, None, slice_get, Ask, node-in, Each, turn_step, asked-holds, drop-got, drop-none}
+use Rattle.std.proofs.Common.{◌≡◌, ◌+◌}
 use Rattle.py_node.specs.declared.task.Task.TheVariants as task
-use Rattle.class_world.proofs.Claims.{node-in}
-use Rattle.proto_object.specs.declared.ObjectKept.TheVariants.{Each}
-use Rattle.proto_object.specs.Rows.{turn_step}
-use Rattle.proto_object.proofs.InTurn.{asked-holds, drop-got, drop-none}
 use Rattle.proto_object.proofs.turns.take_turn.Goals as goal
 
 pub returns-in-None-clause-step : goal.returns-in-None-clause-step

@@ -1,11 +1,4 @@
-use Rattle.std.proofs.Common.{ap, ◌∙◌, []}
-use Rattle.py_node.specs.declared.known.Known.TheVariants.{Instancecheck}
-use Rattle.py_node.specs.Known.{known_text}
-use Rattle.plain_machine.specs.Plain.{DoSpecial, ToAttribute}
-use Rattle.class_world.specs.Reading.{plain}
-use Rattle.proto_object.specs.Classes.{way_of}
-use Rattle.proto_object.specs.Rows.{way_number}
-use Rattle.proto_object.proofs.ByWay.{instance-at-once, instance-called, instance-each, instance-plainly}
+use Rattle.proto_object.proofs.Lemmas.{ap, ◌∙◌, [], Instancecheck, known_text, DoSpecial, ToAttribute, plain, way_of, way_number, instance-at-once, instance-called, instance-each, instance-plainly}
 use Rattle.proto_object.proofs.ways.begin_is_instance.Goals as goal
 
 pub returns-in-AtOnce-clause-goes : goal.returns-in-AtOnce-clause-goes

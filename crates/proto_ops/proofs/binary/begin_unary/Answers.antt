@@ -1,4 +1,4 @@
-use Rattle.class_world.proofs.Claims.{no-nodes}
+use Rattle.proto_ops.proofs.Lemmas.{no-nodes}
 use Rattle.proto_ops.proofs.binary.begin_unary.Goals as goal
 
 pub returns-in-Some-clause-safe : goal.returns-in-Some-clause-safe

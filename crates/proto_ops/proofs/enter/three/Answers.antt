@@ -1,5 +1,5 @@
-use Rattle.std.proofs.Common.{[], ◌∷◌}
-use Rattle.class_world.proofs.Claims.{no-nodes, more-nodes}
+use Rattle.proto_ops.proofs.Lemmas.{[], no-nodes, more-nodes}
+use Rattle.std.proofs.Common.{◌∷◌}
 use Rattle.proto_ops.proofs.enter.three.Goals as goal
 
 pub returns-clause-holds : goal.returns-clause-holds

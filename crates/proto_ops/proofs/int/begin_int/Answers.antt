@@ -1,5 +1,4 @@
-use Rattle.std.proofs.Common.{sym, ◌∙◌}
-use Rattle.class_world.proofs.Filled.{two-hold}
+use Rattle.proto_ops.proofs.Lemmas.{sym, ◌∙◌, two-hold}
 use Rattle.proto_ops.proofs.int.begin_int.Goals as goal
 
 pub sum-requires-clause-a : goal.sum-requires-clause-a

@@ -1,10 +1,5 @@
-use Rattle.std.proofs.Common.{◌≡◌, Some, sym, ◌∙◌, rules}
-use Rattle.std.specs.Int.{w128}
-use Rattle.std.specs.Int.RustNames.{FitsSigned}
-use Rattle.std.proofs.lemmas.Int.{to_z-of_z}
-use Rattle.py_node.specs.BuiltIns.{place_of}
-use Rattle.proto_ops.specs.Say.{total}
-use Rattle.proto_ops.proofs.Entered.{sum-made}
+use Rattle.proto_ops.proofs.Lemmas.{Some, sym, ◌∙◌, rules, w128, FitsSigned, to_z-of_z, place_of, total, sum-made}
+use Rattle.std.proofs.Common.{◌≡◌}
 use Rattle.proto_ops.proofs.int.sum.Goals as goal
 
 pub returns-in_ok-node-in-Some-clause-goes : goal.returns-in_ok-node-in-Some-clause-goes

@@ -1,5 +1,4 @@
-use Rattle.std.proofs.lemmas.Int.{to_z-of_z}
-use Rattle.proto_ops.proofs.Fits.{total-is}
+use Rattle.proto_ops.proofs.Lemmas.{to_z-of_z, total-is}
 use Rattle.proto_ops.proofs.int.total.Goals as goal
 
 pub returns : goal.returns

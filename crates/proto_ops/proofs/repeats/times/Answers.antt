@@ -1,8 +1,4 @@
-use Rattle.std.proofs.Common.{rules}
-use Rattle.std.specs.Int.{w64}
-use Rattle.std.specs.Int.RustNames.{FitsSigned}
-use Rattle.std.proofs.lemmas.Int.{to_z-of_z}
-use Rattle.proto_ops.proofs.Times.{times-asks}
+use Rattle.proto_ops.proofs.Lemmas.{rules, w64, FitsSigned, to_z-of_z, times-asks}
 use Rattle.proto_ops.proofs.repeats.times.Goals as goal
 
 pub returns-in-Ok-clause-goes : goal.returns-in-Ok-clause-goes

@@ -1,5 +1,5 @@
-use Rattle.std.proofs.Common.{◌≡◌, take, map}
-use Rattle.py_node.specs.Replies.{started_of}
+use Rattle.py_node.proofs.Below.{take, map, started_of}
+use Rattle.std.proofs.Common.{◌≡◌}
 use Rattle.py_node.proofs.clone.copy_calls.Given as goal
 
 abbrev pub invariant-loop-call : goal.invariant-loop-call

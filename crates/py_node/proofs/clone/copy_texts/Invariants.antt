@@ -1,5 +1,5 @@
-use Rattle.std.proofs.Common.{◌≡◌, take}
-use Rattle.py_node.specs.Tree.{texts_of}
+use Rattle.py_node.proofs.Below.{take, texts_of}
+use Rattle.std.proofs.Common.{◌≡◌}
 use Rattle.py_node.proofs.clone.copy_texts.Given as goal
 
 abbrev pub invariant-loop-text : goal.invariant-loop-text

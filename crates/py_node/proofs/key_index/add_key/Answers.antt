@@ -1,10 +1,5 @@
-use Rattle.std.proofs.Common.{◌≡◌, refl, ◌∙◌, None}
-use Rattle.std.specs.Prelude.{position}
-use Rattle.py_node.specs.declared.dict.PyDictKey.{PyDictKey}
-use Rattle.py_node.specs.declared.dict.PyDictKey.TheVariants.{Number, Text}
-use Rattle.py_node.specs.Dicts.{is_same_key}
-use Rattle.py_node.specs.contracts.dict.PyDictKeyPartialEq.TheImpl.{eq-value}
-use Rattle.py_node.proofs.Dicts.{key-added}
+use Rattle.py_node.proofs.Lemmas.{refl, ◌∙◌, None, position, PyDictKey, Number, Text, is_same_key, eq-value, key-added}
+use Rattle.std.proofs.Common.{◌≡◌}
 use Rattle.py_node.proofs.key_index.add_key.Goals as goal
 
 -- keys are compared as they are

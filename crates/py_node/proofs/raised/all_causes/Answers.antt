@@ -1,5 +1,4 @@
-use Rattle.std.proofs.Common.{refl}
-use Rattle.py_node.specs.Faults.{cause_rows}
+use Rattle.py_node.proofs.Lemmas.{refl, cause_rows}
 use Rattle.py_node.proofs.raised.all_causes.Goals as goal
 
 pub returns-clause-rows : goal.returns-clause-rows

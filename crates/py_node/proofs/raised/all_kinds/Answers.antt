@@ -1,5 +1,4 @@
-use Rattle.std.proofs.Common.{refl}
-use Rattle.py_node.specs.Faults.{kind_words}
+use Rattle.py_node.proofs.Lemmas.{refl, kind_words}
 use Rattle.py_node.proofs.raised.all_kinds.Goals as goal
 
 pub returns-clause-words : goal.returns-clause-words

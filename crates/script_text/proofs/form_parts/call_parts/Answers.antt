@@ -1,7 +1,5 @@
-use Rattle.std.proofs.Common.{◌≡◌, ◌∷◌, None, arith}
-use Rattle.serde_json.specs.View.{view, items_view}
-use Rattle.script_text.specs.Forms.{call, call_of, expr_of, keywords_of, list_of}
-use Rattle.script_text.proofs.Nones.{if-err, three-second, three-third}
+use Rattle.script_text.proofs.Lemmas.{None, arith, view, items_view, call, call_of, expr_of, keywords_of, list_of, if-err, three-second, three-third}
+use Rattle.std.proofs.Common.{◌≡◌, ◌∷◌}
 use Rattle.script_text.proofs.form_parts.call_parts.Goals as goal
 
 pub returns-in_err-args-clause-shape : goal.returns-in_err-args-clause-shape

@@ -1,8 +1,5 @@
-use Rattle.std.proofs.Common.{◌≡◌, ◌∷◌, None, arith}
-use Rattle.serde_json.specs.Find.{as_str}
-use Rattle.serde_json.specs.View.{view, items_view}
-use Rattle.script_text.specs.Forms.{body_of, class, class_of, keywords_of, list_of}
-use Rattle.script_text.proofs.Nones.{if-err, four-second, four-third, four-fourth}
+use Rattle.script_text.proofs.Lemmas.{None, arith, as_str, view, items_view, body_of, class, class_of, keywords_of, list_of, if-err, four-second, four-third, four-fourth}
+use Rattle.std.proofs.Common.{◌≡◌, ◌∷◌}
 use Rattle.script_text.proofs.form_parts.class_parts.Goals as goal
 
 pub returns-in_err-bases-clause-shape : goal.returns-in_err-bases-clause-shape

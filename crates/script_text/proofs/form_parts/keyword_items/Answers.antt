@@ -1,5 +1,5 @@
-use Rattle.std.proofs.Common.{◌≡◌, ◌∷◌, [], arith}
-use Rattle.script_text.specs.Forms.{keywords_of}
+use Rattle.script_text.proofs.Lemmas.{[], arith, keywords_of}
+use Rattle.std.proofs.Common.{◌≡◌, ◌∷◌}
 use Rattle.script_text.proofs.form_parts.keyword_items.Goals as goal
 
 pub returns-clause-ok : goal.returns-clause-ok

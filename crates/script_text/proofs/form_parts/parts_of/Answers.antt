@@ -1,13 +1,5 @@
-use Rattle.std.proofs.Common.{◌≡◌, ◌∷◌, [], Ok, ok_or, ap, ◌∙◌, arith}
-use Rattle.std.specs.Prelude.{Err, option_and_then}
-use Rattle.serde_json.specs.Find.{as_str}
-use Rattle.serde_json.specs.View.{view, items_view}
-use Rattle.json_text.specs.declared.items.Unread.TheVariants.{Shape}
-use Rattle.script_text.specs.Forms.{array_of}
-use Rattle.script_text.specs.FormParts.{formed}
-use Rattle.script_text.specs.FormWords.{form_named}
-use Rattle.script_text.proofs.Nones.{if-err}
-use Rattle.script_text.proofs.Told.{array-empty, array-form, array-other}
+use Rattle.script_text.proofs.Lemmas.{[], Ok, ok_or, ap, ◌∙◌, arith, Err, option_and_then, as_str, view, items_view, Shape, array_of, formed, form_named, if-err, array-empty, array-form, array-other}
+use Rattle.std.proofs.Common.{◌≡◌, ◌∷◌}
 use Rattle.script_text.proofs.form_parts.parts_of.Goals as goal
 
 pub returns-in_err-head-clause-shape : goal.returns-in_err-head-clause-shape

@@ -1,5 +1,5 @@
-use Rattle.std.proofs.Common.{◌≡◌, ◌∷◌, [], ◌++◌, arith}
-use Rattle.script_text.proofs.Lists.{depth-here, exprs-turn, entries-turn, pairs-turn}
+use Rattle.script_text.proofs.Lemmas.{[], arith, depth-here, exprs-turn, entries-turn, pairs-turn}
+use Rattle.std.proofs.Common.{◌≡◌, ◌∷◌, ◌++◌}
 use Rattle.script_text.proofs.forms.+forms.Goals as goal
 
 pub read_exprs-read_expr-requires : goal.read_exprs-read_expr-requires

@@ -1,10 +1,6 @@
-use Rattle.std.proofs.Common.{◌≡◌, ◌+◌, ◌*◌, drop, map}
-use Rattle.serde_json.specs.Data.{depth, items_depth}
-use Rattle.serde_json.specs.View.{view, items_view}
-use Rattle.py_node.specs.Tree.{tree_of, pair_of}
-use Rattle.script_text.specs.Forms.{exprs_of, entries_in, pairs_in, named}
-use Rattle.script_text.specs.FormParts.{parts_depth}
-use Rattle.json_text.proofs.Lists.{onto}
+use Rattle.script_text.proofs.Below.{drop, map, depth, items_depth, view, items_view, tree_of, pair_of, exprs_of, entries_in, pairs_in, named, parts_depth}
+use Rattle.std.proofs.Common.{◌≡◌, ◌+◌, ◌*◌}
+use Rattle.script_text.proofs.JsonText.Lists.{onto}
 use Rattle.script_text.proofs.forms.+forms.Given as goal
 
 abbrev pub decreases-read_expr : goal.decreases-read_expr

@@ -1,7 +1,4 @@
-use Rattle.std.proofs.Common.{ap, ◌∙◌, map}
-use Rattle.py_node.specs.Tree.{tree_of}
-use Rattle.script_text.specs.Forms.{call, named}
-use Rattle.script_text.proofs.Lists.{call-tree}
+use Rattle.script_text.proofs.Lemmas.{ap, ◌∙◌, map, tree_of, call, named, call-tree}
 use Rattle.script_text.proofs.forms.call_of.Goals as goal
 
 pub returns-clause-ok : goal.returns-clause-ok

@@ -1,7 +1,4 @@
-use Rattle.std.proofs.Common.{ap, ◌∙◌, map, string_bytes}
-use Rattle.py_node.specs.Tree.{tree_of}
-use Rattle.script_text.specs.Forms.{class, named}
-use Rattle.script_text.proofs.Lists.{class-tree}
+use Rattle.script_text.proofs.Lemmas.{ap, ◌∙◌, map, string_bytes, tree_of, class, named, class-tree}
 use Rattle.script_text.proofs.forms.class_of.Goals as goal
 
 pub returns-clause-ok : goal.returns-clause-ok

@@ -1,5 +1,5 @@
-use Rattle.std.proofs.Common.{sym, ◌∙◌, arith, subst, ◌-◌}
-use Rattle.script_text.proofs.Distinct.{HasFrom, repeated, one-more, still-differ}
+use Rattle.script_text.proofs.Lemmas.{sym, ◌∙◌, arith, subst, HasFrom, repeated, one-more, still-differ}
+use Rattle.std.proofs.Common.{◌-◌}
 use Rattle.script_text.proofs.forms.is_distinct.Goals as goal
 
 pub returns-then-not-branch : goal.returns-then-not-branch

@@ -1,8 +1,5 @@
-use Rattle.std.proofs.Common.{ℕ, ◌≡◌, ◌≤◌, List, length, drop, true}
-use Rattle.std.specs.List.{list_any}
-use Rattle.std.specs.Str.{bytes_eq}
-use Rattle.py_node.specs.Tree.{texts_of}
-use Rattle.script_text.specs.Forms.{all_differ}
+use Rattle.script_text.proofs.Below.{ℕ, List, length, drop, true, list_any, bytes_eq, texts_of, all_differ}
+use Rattle.std.proofs.Common.{◌≡◌, ◌≤◌}
 use Rattle.script_text.proofs.forms.is_distinct.Given as goal
 
 abbrev pub invariant-texts : goal.invariant-texts

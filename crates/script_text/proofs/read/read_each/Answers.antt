@@ -1,5 +1,5 @@
-use Rattle.std.proofs.Common.{◌≡◌, ◌∷◌, [], ◌++◌, arith}
-use Rattle.script_text.proofs.Lists.{commands-turn}
+use Rattle.script_text.proofs.Lemmas.{[], arith, commands-turn}
+use Rattle.std.proofs.Common.{◌≡◌, ◌∷◌, ◌++◌}
 use Rattle.script_text.proofs.read.read_each.Goals as goal
 
 pub loop-item-preserved : goal.loop-item-preserved

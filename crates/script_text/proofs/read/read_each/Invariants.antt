@@ -1,8 +1,6 @@
-use Rattle.std.proofs.Common.{◌≡◌, drop}
-use Rattle.serde_json.specs.View.{items_view}
-use Rattle.json_text.proofs.Lists.{onto}
-use Rattle.script_text.specs.Forms.{exprs_of}
-use Rattle.script_text.specs.Script.{command_trees}
+use Rattle.script_text.proofs.Below.{drop, items_view, exprs_of, command_trees}
+use Rattle.std.proofs.Common.{◌≡◌}
+use Rattle.script_text.proofs.JsonText.Lists.{onto}
 use Rattle.script_text.proofs.read.read_each.Given as goal
 
 abbrev pub invariant-loop-item : goal.invariant-loop-item

@@ -1,10 +1,5 @@
-use Rattle.std.proofs.Common.{◌≡◌, None, arith}
-use Rattle.serde_json.specs.View.{items_view}
-use Rattle.json_text.specs.declared.error.ScriptFault.TheVariants.{Script}
-use Rattle.json_text.specs.Fault.{fault_of}
-use Rattle.script_text.specs.Forms.{exprs_of}
-use Rattle.script_text.specs.Script.{commands_in}
-use Rattle.json_text.proofs.Values.{shape-from_fault}
+use Rattle.script_text.proofs.Lemmas.{None, arith, items_view, Script, fault_of, exprs_of, commands_in, shape-from_fault}
+use Rattle.std.proofs.Common.{◌≡◌}
 use Rattle.script_text.proofs.read.read_items.Goals as goal
 
 pub returns-in_err-commands-clause-script : goal.returns-in_err-commands-clause-script

@@ -1,6 +1,5 @@
-use Rattle.std.proofs.Common.{◌≡◌, drop}
-use Rattle.serde_json.specs.View.{items_view}
-use Rattle.script_text.specs.Sessions.{any_empty}
+use Rattle.script_text.proofs.Below.{drop, items_view, any_empty}
+use Rattle.std.proofs.Common.{◌≡◌}
 use Rattle.script_text.proofs.sessions.any_empty.Given as goal
 
 abbrev pub invariant-loop-item : goal.invariant-loop-item

@@ -1,10 +1,6 @@
-use Rattle.std.proofs.Common.{◌≡◌, ℕ, ap, sym, ◌∙◌, rules}
+use Rattle.script_text.proofs.Lemmas.{ap, sym, ◌∙◌, rules, array, view, items_view, the_lemmas, is_empty_array, empty-rows}
+use Rattle.std.proofs.Common.{◌≡◌, ℕ}
 use Rattle.std.specs.Prelude.{◌==◌}
-use Rattle.serde_json.specs.Data.{array}
-use Rattle.serde_json.specs.View.{view, items_view}
-use Rattle.serde_json.specs.declared.value.Value.{the_lemmas}
-use Rattle.script_text.specs.Sessions.{is_empty_array}
-use Rattle.script_text.proofs.Rows.{empty-rows}
 use Rattle.script_text.proofs.sessions.is_empty_array.Goals as goal
 
 pub returns-in-Array : goal.returns-in-Array

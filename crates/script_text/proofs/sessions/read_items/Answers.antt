@@ -1,9 +1,6 @@
-use Rattle.std.proofs.Common.{◌≡◌, ◌<◌, ◌⊎◌, false, length, ok_or, inl, inr, ap, sym, ◌∙◌, arith}
-use Rattle.std.specs.Prelude.{Err}
-use Rattle.serde_json.specs.View.{items_view}
-use Rattle.json_text.specs.declared.error.ScriptError.TheVariants.{Shape}
-use Rattle.script_text.specs.Sessions.{lacks_command}
-use Rattle.script_text.proofs.Rows.{fit-rows, other-rows}
+use Rattle.script_text.proofs.Lemmas.{false, ok_or, inl, inr, ap, sym, ◌∙◌, arith, Err, items_view, lacks_command, fit-rows, other-rows}
+use Rattle.std.proofs.Common.{◌≡◌, ◌<◌, ◌⊎◌, length}
+use Rattle.script_text.specs.declared.json_text.error.ScriptError.TheVariants.{Shape}
 use Rattle.script_text.proofs.sessions.read_items.Goals as goal
 use Rattle.script_text.proofs.sessions.read_items.Goals.{then-items-lt2-via-then-items-lt2, then-items-lt2-via-else-items-lt2+then-items-gt9}
 

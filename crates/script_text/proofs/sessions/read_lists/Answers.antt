@@ -1,11 +1,6 @@
-use Rattle.std.proofs.Common.{◌≡◌, ◌+◌, ◌++◌, ◌∷◌, [], arith, length-append, ap, ◌∙◌, subst, sym}
-use Rattle.std.specs.Prelude.{vec_len, ◌<◌, length, ℕ, List, Vec}
-use Rattle.std.specs.List.{All}
-use Rattle.std.specs.declared.alloc.Global.{Global}
-use Rattle.std.proofs.lemmas.List.Elements.{All-push}
-use Rattle.py_node.specs.declared.expr.Command.{Command}
-use Rattle.script_text.specs.declared.sessions.TheConstants.{TOO_MANY}
-use Rattle.script_text.proofs.Rows.{lists-turn}
+use Rattle.script_text.proofs.Lemmas.{[], arith, length-append, ap, ◌∙◌, subst, sym, vec_len, length, ℕ, List, Vec, All, Global, All-push, Command, TOO_MANY, lists-turn}
+use Rattle.std.proofs.Common.{◌≡◌, ◌+◌, ◌++◌, ◌∷◌}
+use Rattle.std.specs.Prelude.{◌<◌}
 use Rattle.script_text.proofs.sessions.read_lists.Goals as goal
 
 pub loop-item-preserved : goal.loop-item-preserved

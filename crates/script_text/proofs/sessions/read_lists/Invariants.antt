@@ -1,10 +1,6 @@
-use Rattle.std.proofs.Common.{◌≡◌, ◌<◌, drop, length}
-use Rattle.std.specs.Prelude.{vec_len}
-use Rattle.std.specs.List.{All}
-use Rattle.serde_json.specs.View.{items_view}
-use Rattle.json_text.proofs.Lists.{onto}
-use Rattle.script_text.specs.declared.sessions.TheConstants.{TOO_MANY}
-use Rattle.script_text.specs.Sessions.{lists_in, session_trees}
+use Rattle.script_text.proofs.Below.{drop, length, vec_len, All, items_view, TOO_MANY, lists_in, session_trees}
+use Rattle.std.proofs.Common.{◌≡◌, ◌<◌}
+use Rattle.script_text.proofs.JsonText.Lists.{onto}
 use Rattle.script_text.proofs.sessions.read_lists.Given as goal
 
 abbrev pub invariant-loop-item : goal.invariant-loop-item

@@ -1,7 +1,4 @@
-use Rattle.std.proofs.Common.{ap, option_map, ◌∙◌}
-use Rattle.std.specs.List.{find}
-use Rattle.std.specs.Str.{bytes_eq}
-use Rattle.script_text.proofs.Found.{find-map}
+use Rattle.script_text.proofs.Lemmas.{ap, option_map, ◌∙◌, find, bytes_eq, find-map}
 use Rattle.script_text.proofs.words.find_word.Goals as goal
 
 pub returns : goal.returns

@@ -1,7 +1,4 @@
-use Rattle.std.proofs.Common.{refl, Some}
-use Rattle.seat_example.specs.declared.sign.TheConstants.{ROUNDS}
-use Rattle.seat_example.specs.Signed.{MaySign}
-use Rattle.seat_example.proofs.Names.{popped, may_still}
+use Rattle.seat_example.proofs.Lemmas.{refl, Some, ROUNDS, MaySign, popped, may_still}
 use Rattle.seat_example.proofs.sign.all_sign.Goals as goal
 
 pub both_sign-second-requires-after_bounds : goal.both_sign-second-requires-after_bounds

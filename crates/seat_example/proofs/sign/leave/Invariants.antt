@@ -1,4 +1,4 @@
-use Rattle.seat_example.specs.Sheets.{newest}
+use Rattle.seat_example.proofs.Below.{newest}
 use Rattle.seat_example.proofs.sign.leave.Given as goal
 
 abbrev pub ghost-give : goal.ghost-give

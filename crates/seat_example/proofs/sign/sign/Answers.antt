@@ -1,4 +1,4 @@
-use Rattle.seat_example.proofs.Names.{one_more}
+use Rattle.seat_example.proofs.Lemmas.{one_more}
 use Rattle.seat_example.proofs.sign.sign.Goals as goal
 
 pub leave-requires-clause-sheet : goal.leave-requires-clause-sheet

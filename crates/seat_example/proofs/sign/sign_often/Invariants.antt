@@ -1,4 +1,4 @@
-use Rattle.seat_example.specs.Signed.{Signed}
+use Rattle.seat_example.proofs.Below.{Signed}
 use Rattle.seat_example.proofs.sign.sign_often.Given as goal
 
 abbrev pub invariant-loop : goal.invariant-loop

@@ -1,10 +1,5 @@
-use Rattle.std.proofs.Common.{rules, arith, sym, ap, ap₂, ◌∙◌, ◌≡◌, ℕ, suc, ◌+◌, ◌-◌, ◌<◌, []}
-use Rattle.std.specs.Prelude.{slice_get}
-use Rattle.seat_lock.specs.Rule.{blank_view}
-use Rattle.seat_lock.specs.Known.{fresh_seat}
-use Rattle.seat_lock.proofs.Cutting.{cuts}
-use Rattle.seat_lock.proofs.Turning.{fresh_known, left_over, cut_off}
-use Rattle.seat_lock.proofs.Rows.{dealt_more}
+use Rattle.seat_lock.proofs.Lemmas.{rules, arith, sym, ap, ap₂, ◌∙◌, ℕ, suc, [], slice_get, blank_view, fresh_seat, cuts, fresh_known, left_over, cut_off, dealt_more}
+use Rattle.std.proofs.Common.{◌≡◌, ◌+◌, ◌-◌, ◌<◌}
 use Rattle.seat_lock.proofs.dealing.deal.Goals as goal
 
 pub split_seat-place-requires : goal.split_seat-place-requires

@@ -1,7 +1,5 @@
-use Rattle.std.proofs.Common.{◌≡◌, ℕ, suc, ◌-◌, ◌<◌, ◌≤◌, [], Some, vec_len}
-use Rattle.std.specs.Prelude.{slice_get, vec_capacity}
-use Rattle.seat_lock.specs.Rule.{blank_view}
-use Rattle.seat_lock.specs.Known.{fresh_seat}
+use Rattle.seat_lock.proofs.Below.{ℕ, suc, [], Some, vec_len, slice_get, vec_capacity, blank_view, fresh_seat}
+use Rattle.std.proofs.Common.{◌≡◌, ◌-◌, ◌<◌, ◌≤◌}
 use Rattle.seat_lock.proofs.dealing.deal.Given as goal
 
 abbrev pub invariant-loop-number : goal.invariant-loop-number

@@ -1,7 +1,5 @@
-use Rattle.std.proofs.Common.{refl, sym, ap, ◌∙◌, [], ◌∷◌, ◌++◌, Some, subst}
-use Rattle.seat_lock.specs.Ending.{Gathered}
-use Rattle.seat_lock.proofs.Turning.{free_place}
-use Rattle.seat_lock.proofs.Rows.{gathered_one, gathered_more, popped, moved_over, none_left, nil_of}
+use Rattle.seat_lock.proofs.Lemmas.{refl, sym, ap, ◌∙◌, [], Some, subst, Gathered, free_place, gathered_one, gathered_more, popped, moved_over, none_left, nil_of}
+use Rattle.std.proofs.Common.{◌∷◌, ◌++◌}
 use Rattle.seat_lock.proofs.ending.gather.Goals as goal
 
 pub loop-next-init : goal.loop-next-init

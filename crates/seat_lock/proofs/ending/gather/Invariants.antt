@@ -1,7 +1,5 @@
-use Rattle.std.proofs.Common.{◌≡◌, List, ◌++◌, vec_len}
-use Rattle.std.specs.List.{All}
-use Rattle.seat_lock.specs.Known.{Known, IsFree}
-use Rattle.seat_lock.specs.Ending.{Gathered}
+use Rattle.seat_lock.proofs.Below.{List, vec_len, All, Known, IsFree, Gathered}
+use Rattle.std.proofs.Common.{◌≡◌, ◌++◌}
 use Rattle.seat_lock.proofs.ending.gather.Given as goal
 
 abbrev pub invariant-loop-next : goal.invariant-loop-next

@@ -1,6 +1,5 @@
-use Rattle.std.proofs.Common.{◌≡◌, Err}
-use Rattle.json_text.specs.declared.error.ScriptFault.TheVariants.{Script}
-use Rattle.serve.proofs.Answered.{spelled-not_refused}
+use Rattle.serve.proofs.Lemmas.{Err, Script, spelled-not_refused}
+use Rattle.std.proofs.Common.{◌≡◌}
 use Rattle.serve.proofs.answer.answer.Goals as goal
 
 pub returns-in-Err-Script-clause-complete : goal.returns-in-Err-Script-clause-complete

@@ -1,7 +1,5 @@
-use Rattle.std.proofs.Common.{◌≡◌, arith}
-use Rattle.outside.specs.declared.words.Question.{Question}
-use Rattle.serve.specs.Headline.{IsSpelled, IsRoomFor}
-use Rattle.serve.proofs.Answered.{spelled-not_refused, done-or-poor}
+use Rattle.serve.proofs.Lemmas.{arith, Question, IsSpelled, IsRoomFor, spelled-not_refused, done-or-poor}
+use Rattle.std.proofs.Common.{◌≡◌}
 use Rattle.serve.proofs.answer.answer_source.Goals as goal
 
 pub returns-in-Ok-clause-ahead : goal.returns-in-Ok-clause-ahead

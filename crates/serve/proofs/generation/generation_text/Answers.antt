@@ -1,15 +1,6 @@
 -- After each command the world is the plain machine's, and all replies so far are counted.
-use Rattle.std.proofs.Common.{arith, ◌≡◌, ℕ, ◌+◌, ◌-◌, ◌==◌, if◌then◌else◌, ◌++◌, List, sym, ap, ◌∙◌, subst}
-use Rattle.std.proofs.lemmas.List.{append-nil}
-use Rattle.py_node.specs.Tree.{Tree, tree_of}
-use Rattle.plain_machine.specs.Answer.{plain_run}
-use Rattle.plain_machine.specs.Start.{start}
-use Rattle.vm_eval.specs.Say.{say}
-use Rattle.generator.specs.Draws.{after}
-use Rattle.generator.specs.Commands.{generated}
-use Rattle.serve.specs.Ran.{Ran}
-use Rattle.serve.proofs.OneMore.{when-ok}
-use Rattle.serve.proofs.Steps.{classes_made, changes_made, class-draw, change-draws, class-more, change-more, all-counted}
+use Rattle.serve.proofs.Lemmas.{arith, ℕ, List, sym, ap, ◌∙◌, subst, append-nil, Tree, tree_of, plain_run, start, say, after, generated, Ran, when-ok, classes_made, changes_made, class-draw, change-draws, class-more, change-more, all-counted}
+use Rattle.std.proofs.Common.{◌≡◌, ◌+◌, ◌-◌, ◌==◌, if◌then◌else◌, ◌++◌}
 use Rattle.serve.proofs.generation.generation_text.Goals as goal
 
 pub loop-i-init : goal.loop-i-init

@@ -1,7 +1,5 @@
 use Rattle.std.proofs.Common.{◌≡◌, ◌+◌, ◌-◌, ◌*◌, ◌<◌, ◌++◌}
-use Rattle.class_world.specs.Reading.{IsReadable}
-use Rattle.generator.specs.Draws.{after}
-use Rattle.serve.specs.Ran.{Ran}
+use Rattle.serve.proofs.Below.{IsReadable, after, Ran}
 use Rattle.serve.proofs.Steps.{classes_made, changes_made}
 use Rattle.serve.proofs.generation.generation_text.Given as goal
 

@@ -1,9 +1,6 @@
 -- The machine's run of one command is the plain machine's, and its one reply is counted.
-use Rattle.std.proofs.Common.{◌+◌, ◌++◌, length, map, ap, ◌∙◌, subst}
-use Rattle.py_node.specs.Tree.{tree_of}
-use Rattle.py_node.specs.Replies.{reply_of}
-use Rattle.generator.specs.Summary.{Counts}
-use Rattle.serve.proofs.OneMore.{one-reply, ran-more}
+use Rattle.serve.proofs.Lemmas.{length, map, ap, ◌∙◌, subst, tree_of, reply_of, Counts, one-reply, ran-more}
+use Rattle.std.proofs.Common.{◌+◌, ◌++◌}
 use Rattle.serve.proofs.generation.run_one.Goals as goal
 
 pub returns-in-Ok-clause-ran : goal.returns-in-Ok-clause-ran

@@ -1,17 +1,6 @@
-use Rattle.std.proofs.Common.{◌≡◌, ◌++◌, List, sym, ap, subst, ◌∙◌}
+use Rattle.serve.proofs.Lemmas.{List, sym, ap, subst, ◌∙◌, Reply, reply_of, Text, Run, plain_run, classes_text, replies_text, PlainWorld, Held, Reads, plain, trees_in, say, text_of}
+use Rattle.std.proofs.Common.{◌≡◌, ◌++◌}
 use Rattle.std.specs.Prelude.{map}
-use Rattle.py_node.specs.declared.reply.Reply.{Reply}
-use Rattle.py_node.specs.Replies.{reply_of}
-use Rattle.py_node.specs.Tree.{Text}
-use Rattle.plain_machine.specs.Answer.{Run, plain_run}
-use Rattle.plain_machine.specs.ClassText.{classes_text}
-use Rattle.plain_machine.specs.Lines.{replies_text}
-use Rattle.plain_machine.specs.Plain.{PlainWorld}
-use Rattle.class_world.specs.Held.{Held}
-use Rattle.class_world.specs.Reading.{Reads, plain}
-use Rattle.vm_eval.specs.Runs.{trees_in}
-use Rattle.vm_eval.specs.Say.{say}
-use Rattle.serve.specs.Headline.{text_of}
 use Rattle.serve.proofs.script.run_text.Goals as goal
 
 pub returns-in-Ok : goal.returns-in-Ok

@@ -1,7 +1,6 @@
 -- The words ask for one job.
-use Rattle.std.proofs.Common.{◌≡◌, map, string_bytes, Some}
-use Rattle.outside.specs.declared.words.Job.TheVariants.{Answer}
-use Rattle.outside.specs.Words.{job_in}
+use Rattle.serve.proofs.Lemmas.{map, string_bytes, Some, Answer, job_in}
+use Rattle.std.proofs.Common.{◌≡◌}
 use Rattle.serve.proofs.top.serve.Goals as goal
 
 pub returns-in-Some-Answer-clause-script : goal.returns-in-Some-Answer-clause-script

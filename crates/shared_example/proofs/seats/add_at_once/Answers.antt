@@ -1,6 +1,5 @@
 use denote.Param.Send.{sendable}
-use Rattle.std.proofs.Crossing.{crosses}
-use Rattle.shared_example.proofs.Sent.{adder_send, vm_sync}
+use Rattle.shared_example.proofs.Lemmas.{crosses, adder_send, vm_sync}
 use Rattle.shared_example.proofs.seats.add_at_once.Goals as goal
 
 pub join-one-requires-send-F : goal.join-one-requires-send-F

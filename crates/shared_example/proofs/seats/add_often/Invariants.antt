@@ -1,4 +1,4 @@
-use Rattle.seat_lock.specs.Known.{IsFree}
+use Rattle.shared_example.proofs.Below.{IsFree}
 use Rattle.shared_example.proofs.seats.add_often.Given as goal
 
 abbrev pub invariant-loop : goal.invariant-loop

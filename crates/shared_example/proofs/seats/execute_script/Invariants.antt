@@ -1,4 +1,4 @@
-use Rattle.seat_lock.specs.Known.{IsFree}
+use Rattle.shared_example.proofs.Below.{IsFree}
 use Rattle.shared_example.proofs.seats.execute_script.Given as goal
 
 abbrev pub invariant-loop-command : goal.invariant-loop-command

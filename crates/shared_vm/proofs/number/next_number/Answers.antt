@@ -1,6 +1,5 @@
-use Rattle.std.proofs.Common.{◌≡◌, ◌+◌, arith}
-use Rattle.shared_vm.specs.Journal.{count_of, plain_journal}
-use Rattle.shared_vm.proofs.Journals.{number_here, few_entries}
+use Rattle.shared_vm.proofs.Lemmas.{arith, count_of, plain_journal, number_here, few_entries}
+use Rattle.std.proofs.Common.{◌≡◌, ◌+◌}
 use Rattle.shared_vm.proofs.number.next_number.Goals as goal
 
 pub returns-then-entry-seat : goal.returns-then-entry-seat

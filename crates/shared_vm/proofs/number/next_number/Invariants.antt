@@ -1,6 +1,5 @@
-use Rattle.std.proofs.Common.{◌≡◌, List, ◌++◌}
-use Rattle.shared_vm.specs.declared.entry.Entry.{Entry}
-use Rattle.shared_vm.specs.Journal.{count_of, plain_journal}
+use Rattle.shared_vm.proofs.Below.{List, Entry, count_of, plain_journal}
+use Rattle.std.proofs.Common.{◌≡◌, ◌++◌}
 use Rattle.shared_vm.proofs.number.next_number.Given as goal
 
 -- what comes behind the entries that are left has none of the seat

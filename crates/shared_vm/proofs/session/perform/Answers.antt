@@ -1,10 +1,5 @@
-use Rattle.std.proofs.Common.{◌≡◌, ◌++◌, ◌∷◌, [], List, sym, subst}
-use Rattle.std.proofs.lemmas.List.{map_push}
-use Rattle.py_node.specs.declared.expr.Command.{Command}
-use Rattle.py_node.specs.Tree.{Tree, tree_of}
-use Rattle.vm_eval.specs.Runs.{trees_in}
-use Rattle.shared_vm.specs.Work.{Performed}
-use Rattle.shared_vm.proofs.Working.{stays_more, performed_more}
+use Rattle.shared_vm.proofs.Lemmas.{[], List, sym, subst, map_push, Command, Tree, tree_of, trees_in, Performed, stays_more, performed_more}
+use Rattle.std.proofs.Common.{◌≡◌, ◌++◌, ◌∷◌}
 use Rattle.shared_vm.proofs.session.perform.Goals as goal
 
 pub loop-command-preserved : goal.loop-command-preserved

@@ -1,5 +1,4 @@
-use Rattle.vm_eval.specs.Runs.{trees_in}
-use Rattle.shared_vm.specs.Work.{Performed, Stays}
+use Rattle.shared_vm.proofs.Below.{trees_in, Performed, Stays}
 use Rattle.shared_vm.proofs.session.perform.Given as goal
 
 abbrev pub invariant-loop-command : goal.invariant-loop-command

@@ -1,5 +1,4 @@
-use Rattle.std.proofs.Common.{false}
-use Rattle.shared_vm.specs.Turns.{newest}
+use Rattle.shared_vm.proofs.Below.{false, newest}
 use Rattle.shared_vm.proofs.shared.keep.Given as goal
 
 abbrev pub ghost-give : goal.ghost-give

@@ -1,5 +1,4 @@
-use Rattle.std.proofs.Common.{true}
-use Rattle.shared_vm.specs.Turns.{newest}
+use Rattle.shared_vm.proofs.Below.{true, newest}
 use Rattle.shared_vm.proofs.shared.lose.Given as goal
 
 abbrev pub ghost-give : goal.ghost-give

@@ -1,4 +1,4 @@
-use Rattle.class_world.proofs.Stored.{no-names}
+use Rattle.table_lines.proofs.Lemmas.{no-names}
 use Rattle.table_lines.proofs.lists.no_names.Goals as goal
 
 pub returns : goal.returns

@@ -1,5 +1,4 @@
-use Rattle.std.proofs.Common.{[]}
-use Rattle.class_world.proofs.Stored.{names-push, no-names}
+use Rattle.table_lines.proofs.Lemmas.{[], names-push, no-names}
 use Rattle.table_lines.proofs.lists.one_name.Goals as goal
 
 pub returns : goal.returns

@@ -1,11 +1,4 @@
-use Rattle.std.proofs.Common.{rules, subst}
-use Rattle.py_node.specs.declared.task.Answer.{Answer}
-use Rattle.py_node.specs.declared.task.PyResult.{PyResult}
-use Rattle.py_node.specs.declared.task.PyResult.TheVariants.{Done}
-use Rattle.class_world.specs.Sound.{AllHold}
-use Rattle.class_world.specs.Claims.{of_answer}
-use Rattle.vm_eval.specs.Asks.{Asked, of_done}
-use Rattle.vm_calls.proofs.Kinded.{asked-kind}
+use Rattle.vm_calls.proofs.Lemmas.{rules, subst, Answer, PyResult, Done, AllHold, of_answer, Asked, of_done, asked-kind}
 use Rattle.vm_calls.proofs.asked.ask.Goals as goal
 
 pub from_answer-requires : goal.from_answer-requires

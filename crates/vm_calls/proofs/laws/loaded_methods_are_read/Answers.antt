@@ -1,8 +1,4 @@
-use Rattle.std.proofs.Common.{subst}
-use Rattle.class_world.specs.declared.world.World.{World}
-use Rattle.class_world.specs.Reading.{Reading, plain}
-use Rattle.attribute_laws.specs.Methods.{IsUsual}
-use Rattle.vm_calls.proofs.Loading.{loaded-is-read, invoked-is-called}
+use Rattle.vm_calls.proofs.Lemmas.{subst, World, Reading, plain, IsUsual, loaded-is-read, invoked-is-called}
 use Rattle.vm_calls.proofs.laws.loaded_methods_are_read.Goals as goal
 
 pub returns-clause-read : goal.returns-clause-read

@@ -1,7 +1,5 @@
-use Rattle.std.proofs.Common.{◌≡◌, ◌∙◌, true, ap, sym, arith}
-use Rattle.std.specs.Prelude.{length, nat_le}
-use Rattle.plain_machine.specs.Row.{most_items}
-use Rattle.vm_calls.proofs.Composed.{items-made}
+use Rattle.vm_calls.proofs.Lemmas.{◌∙◌, true, ap, sym, arith, length, nat_le, most_items, items-made}
+use Rattle.std.proofs.Common.{◌≡◌}
 use Rattle.vm_calls.proofs.made.made_of_items.Goals as goal
 
 pub returns-in_ok-node-in-Done : goal.returns-in_ok-node-in-Done

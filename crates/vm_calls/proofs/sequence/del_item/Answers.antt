@@ -1,11 +1,5 @@
-use Rattle.std.proofs.Common.{rules, refl}
-use Rattle.std.proofs.lemmas.Int.{to_z-of_z}
-use Rattle.py_node.specs.declared.protocol.ProtocolTask.TheVariants.{DelItem}
+use Rattle.vm_calls.proofs.Lemmas.{rules, refl, to_z-of_z, DelItem, ToProtocol, DoDelItem, IsDone, of_nothing, by-number}
 use Rattle.py_node.specs.declared.task.Task.TheVariants as task
-use Rattle.plain_machine.specs.Plain.{ToProtocol, DoDelItem}
-use Rattle.vm_calls.specs.Answers.{IsDone}
-use Rattle.vm_calls.specs.Told.{of_nothing}
-use Rattle.vm_calls.proofs.Composed.{by-number}
 use Rattle.vm_calls.proofs.sequence.del_item.Goals as goal
 
 pub returns : goal.returns

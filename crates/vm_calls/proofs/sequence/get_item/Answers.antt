@@ -1,11 +1,5 @@
-use Rattle.std.proofs.Common.{rules, refl}
-use Rattle.std.proofs.lemmas.Int.{to_z-of_z}
-use Rattle.py_node.specs.declared.protocol.ProtocolTask.TheVariants.{GetItem}
+use Rattle.vm_calls.proofs.Lemmas.{rules, refl, to_z-of_z, GetItem, ToProtocol, DoGetItem, of_node_ref, IsObject, by-number}
 use Rattle.py_node.specs.declared.task.Task.TheVariants as task
-use Rattle.plain_machine.specs.Plain.{ToProtocol, DoGetItem}
-use Rattle.class_world.specs.Sound.{of_node_ref}
-use Rattle.vm_calls.specs.Answers.{IsObject}
-use Rattle.vm_calls.proofs.Composed.{by-number}
 use Rattle.vm_calls.proofs.sequence.get_item.Goals as goal
 
 pub returns : goal.returns

@@ -1,12 +1,5 @@
-use Rattle.std.proofs.Common.{◌≡◌, ◌≤◌, [], ◌++◌, map, drop}
-use Rattle.std.specs.Prelude.{vec_capacity}
-use Rattle.py_node.specs.Replies.{reply_of}
-use Rattle.plain_machine.specs.Answer.{plain_run}
-use Rattle.class_world.specs.Reading.{Reading, Reads, plain}
-use Rattle.class_world.specs.Sound.{Lasts}
-use Rattle.vm_eval.specs.Say.{say}
-use Rattle.vm_eval.specs.Stack.{AsDeep}
-use Rattle.vm_eval.specs.Runs.{trees_in}
+use Rattle.vm_eval.proofs.Below.{[], map, drop, vec_capacity, reply_of, plain_run, Reading, Reads, plain, Lasts, say, AsDeep, trees_in}
+use Rattle.std.proofs.Common.{◌≡◌, ◌≤◌, ◌++◌}
 use Rattle.vm_eval.proofs.run.replies.Given as goal
 
 -- the replies so far, and those to what is left, are those to all

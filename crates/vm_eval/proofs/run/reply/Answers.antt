@@ -1,5 +1,4 @@
-use Rattle.py_node.specs.Tree.{tree_of}
-use Rattle.vm_eval.proofs.Commands.{command-replied}
+use Rattle.vm_eval.proofs.Lemmas.{tree_of, command-replied}
 use Rattle.vm_eval.proofs.run.reply.Goals as goal
 
 pub returns-clause-replied : goal.returns-clause-replied

@@ -1,28 +1,4 @@
-use Rattle.std.proofs.Common.{refl}
-use Rattle.class_world.specs.Reading.{eval_job, attribute_job, descriptor_job, call_job, class_job, operator_job, compare_job, object_job}
-use Rattle.class_world.proofs.Leaves.{leaves-among, leaves-open}
-use Rattle.eval_forms.specs.Say.{eval_say}
-use Rattle.eval_forms.specs.Rows.{eval_stands, of_eval_kept}
-use Rattle.proto_attr.specs.Say.{attribute_say}
-use Rattle.proto_attr.specs.Rows.{attribute_stands, of_attribute_kept}
-use Rattle.proto_descr.specs.Say.{descriptor_say}
-use Rattle.proto_descr.specs.Rows.{descriptor_stands, of_descriptor_kept}
-use Rattle.proto_call.specs.Say.{call_job_say}
-use Rattle.proto_call.specs.Rows.{call_stands, of_call_kept, bodies_of}
-use Rattle.class_make.specs.Say.{class_job_say}
-use Rattle.class_make.specs.Rows.{class_stands, of_class_kept}
-use Rattle.proto_ops.specs.Say.{operator_say}
-use Rattle.proto_ops.specs.Rows.{operator_stands, of_operator_kept}
-use Rattle.proto_compare.specs.Say.{compare_job_say}
-use Rattle.proto_compare.specs.Rows.{compare_stands, of_compare_kept}
-use Rattle.proto_object.specs.Say.{object_job_say}
-use Rattle.proto_object.specs.Rows.{object_stands, of_object_kept}
-use Rattle.natives.specs.Say.{native_job_say}
-use Rattle.natives.specs.Rows.{native_job, natives_stands, of_natives_kept}
-use Rattle.plain_machine.specs.Plain.{ToEval, ToAttribute, ToDescriptor, ToCall, ToClass, ToOperator, ToCompare, ToObject}
-use Rattle.vm_eval.specs.declared.stack.Kept.TheVariants.{ForEval, ForAttribute, ForDescriptor, ForCall, ForClass, ForOperator, ForCompare, ForObject, ForNative}
-use Rattle.vm_eval.specs.Say.{of_kept, bodies_in, to_native}
-use Rattle.vm_eval.proofs.Groups.{Any, begins-among, eval-group, attribute-group, descriptor-group, call-group, class-group, operator-group, compare-group, object-group, native-group}
+use Rattle.vm_eval.proofs.Lemmas.{refl, eval_job, attribute_job, descriptor_job, call_job, class_job, operator_job, compare_job, object_job, leaves-among, leaves-open, eval_say, eval_stands, of_eval_kept, attribute_say, attribute_stands, of_attribute_kept, descriptor_say, descriptor_stands, of_descriptor_kept, call_job_say, call_stands, of_call_kept, bodies_of, class_job_say, class_stands, of_class_kept, operator_say, operator_stands, of_operator_kept, compare_job_say, compare_stands, of_compare_kept, object_job_say, object_stands, of_object_kept, native_job_say, native_job, natives_stands, of_natives_kept, ToEval, ToAttribute, ToDescriptor, ToCall, ToClass, ToOperator, ToCompare, ToObject, ForEval, ForAttribute, ForDescriptor, ForCall, ForClass, ForOperator, ForCompare, ForObject, ForNative, of_kept, bodies_in, to_native, Any, begins-among, eval-group, attribute-group, descriptor-group, call-group, class-group, operator-group, compare-group, object-group, native-group}
 use Rattle.vm_eval.proofs.stack.begin.Goals as goal
 
 pub returns-in_ok-step-in-Eval-clause-goes : goal.returns-in_ok-step-in-Eval-clause-goes

@@ -1,17 +1,5 @@
-use Rattle.std.proofs.Common.{refl, sym, ◌∙◌}
-use Rattle.class_world.specs.Reading.{protocol_job}
-use Rattle.class_world.proofs.Leaves.{leaves-among}
-use Rattle.proto_number.specs.Say.{number_job_say}
-use Rattle.proto_number.specs.Rows.{number_stands, of_number_kept}
-use Rattle.proto_iter.specs.Say.{iter_job_say}
-use Rattle.proto_iter.specs.Rows.{iter_stands, of_iter_kept}
-use Rattle.proto_items.specs.Say.{items_job_say}
-use Rattle.proto_items.specs.Rows.{items_stands, of_items_kept}
-use Rattle.plain_machine.specs.Plain.{ToProtocol}
+use Rattle.vm_eval.proofs.Lemmas.{refl, sym, ◌∙◌, protocol_job, leaves-among, number_job_say, number_stands, of_number_kept, iter_job_say, iter_stands, of_iter_kept, items_job_say, items_stands, of_items_kept, ToProtocol, ForNumber, ForIteration, ForItems, of_kept, bodies_in, On, begins-among, number-group, iter-group, items-group}
 use Rattle.vm_eval.specs.declared.protocols.Branch.TheVariants as branch
-use Rattle.vm_eval.specs.declared.stack.Kept.TheVariants.{ForNumber, ForIteration, ForItems}
-use Rattle.vm_eval.specs.Say.{of_kept, bodies_in}
-use Rattle.vm_eval.proofs.Groups.{On, begins-among, number-group, iter-group, items-group}
 use Rattle.vm_eval.proofs.stack.begin_protocol.Goals as goal
 
 pub returns-in_ok-step-in-Numbers-clause-goes : goal.returns-in_ok-step-in-Numbers-clause-goes

@@ -1,8 +1,4 @@
-use Rattle.std.proofs.Common.{length, sym, ap, ◌∙◌}
-use Rattle.plain_machine.specs.World.{at_depth}
-use Rattle.plain_machine.specs.Answer.{Out, NoUnits, closing}
-use Rattle.class_world.specs.Reading.{plain}
-use Rattle.class_world.proofs.Leaves.{bodies-read}
+use Rattle.vm_eval.proofs.Lemmas.{length, sym, ap, ◌∙◌, at_depth, Out, NoUnits, closing, plain, bodies-read}
 use Rattle.vm_eval.proofs.stack.drive.Goals as goal
 
 pub returns-in-NoUnits-clause-answers : goal.returns-in-NoUnits-clause-answers

@@ -1,11 +1,5 @@
-use Rattle.std.proofs.Common.{◌≡◌, suc, ◌-◌, ◌∷◌, [], ◌++◌, length, true, false, nat_lt, sym, ap, ◌∙◌, arith}
-use Rattle.std.proofs.lemmas.Bool.{lt-ltb, le-ltb}
-use Rattle.py_node.specs.declared.task.Step.TheVariants.{Ask}
-use Rattle.class_world.specs.Claims.{of_task}
-use Rattle.class_world.proofs.Claims.{each-pop, each-push, all-last, all-rest, all-first}
-use Rattle.vm_eval.specs.Say.{of_kept}
-use Rattle.vm_eval.specs.Stack.{state}
-use Rattle.vm_eval.proofs.Turns.{state-resume, state-begin, state-limit, state-no_units, state-end, no-frames}
+use Rattle.vm_eval.proofs.Lemmas.{suc, [], length, true, false, nat_lt, sym, ap, ◌∙◌, arith, lt-ltb, le-ltb, Ask, of_task, each-pop, each-push, all-last, all-rest, all-first, of_kept, state, state-resume, state-begin, state-limit, state-no_units, state-end, no-frames}
+use Rattle.std.proofs.Common.{◌≡◌, ◌-◌, ◌∷◌, ◌++◌}
 use Rattle.vm_eval.proofs.stack.take_turn.Goals as goal
 
 pub resume-requires-clause-kept : goal.resume-requires-clause-kept

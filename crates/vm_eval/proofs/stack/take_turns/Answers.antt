@@ -1,6 +1,4 @@
-use Rattle.std.proofs.Common.{length, ◌∙◌, arith}
-use Rattle.class_world.proofs.Growth.{lasts-on}
-use Rattle.vm_eval.proofs.Turns.{state-first}
+use Rattle.vm_eval.proofs.Lemmas.{length, ◌∙◌, arith, lasts-on, state-first}
 use Rattle.vm_eval.proofs.stack.take_turns.Goals as goal
 
 pub turns-init : goal.turns-init

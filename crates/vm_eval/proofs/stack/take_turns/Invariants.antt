@@ -1,12 +1,5 @@
-use Rattle.std.proofs.Common.{◌≡◌, ◌+◌, ◌≤◌, [], length}
-use Rattle.std.specs.Prelude.{vec_capacity}
-use Rattle.plain_machine.specs.Answer.{reach}
-use Rattle.class_world.specs.Reading.{Reading, Reads, plain, task_of}
-use Rattle.class_world.specs.Sound.{AllHold, Lasts, of_each}
-use Rattle.class_world.specs.Claims.{of_step}
-use Rattle.vm_eval.specs.declared.stack.Turn.TheVariants.{On}
-use Rattle.vm_eval.specs.Say.{say, of_kept}
-use Rattle.vm_eval.specs.Stack.{state, RunsAbove}
+use Rattle.vm_eval.proofs.Below.{[], length, vec_capacity, reach, Reading, Reads, plain, task_of, AllHold, Lasts, of_each, of_step, On, say, of_kept, state, RunsAbove}
+use Rattle.std.proofs.Common.{◌≡◌, ◌+◌, ◌≤◌}
 use Rattle.vm_eval.proofs.stack.take_turns.Given as goal
 
 -- the machine is on its way to what the task comes to

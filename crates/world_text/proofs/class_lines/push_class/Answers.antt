@@ -1,6 +1,4 @@
-use Rattle.class_table.specs.Keys.{table_keys, numbers}
-use Rattle.class_model.proofs.Rule.{lin-classes}
-use Rattle.world_text.proofs.ClassText.{class-written}
+use Rattle.world_text.proofs.Lemmas.{table_keys, numbers, lin-classes, class-written}
 use Rattle.world_text.proofs.class_lines.push_class.Goals as goal
 
 pub push_names-requires : goal.push_names-requires

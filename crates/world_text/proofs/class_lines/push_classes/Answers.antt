@@ -1,4 +1,4 @@
-use Rattle.world_text.proofs.ClassText.{text-seen}
+use Rattle.world_text.proofs.Lemmas.{text-seen}
 use Rattle.world_text.proofs.class_lines.push_classes.Goals as goal
 
 pub returns : goal.returns

@@ -1,10 +1,5 @@
-use Rattle.std.proofs.Common.{ap, ◌∙◌, ◌++◌, List, ℕ, arith}
-use Rattle.std.specs.List.{flat_map}
-use Rattle.class_model.specs.Numbers.{numbers_of}
-use Rattle.class_table.specs.Keys.{table_keys}
-use Rattle.reply_text.proofs.Members.{written_more}
-use Rattle.plain_machine.specs.ClassText.{heap_text}
-use Rattle.world_text.proofs.ClassText.{text-next, all-taken}
+use Rattle.world_text.proofs.Lemmas.{ap, ◌∙◌, List, ℕ, arith, flat_map, numbers_of, table_keys, written_more, heap_text, text-next, all-taken}
+use Rattle.std.proofs.Common.{◌++◌}
 use Rattle.world_text.proofs.class_lines.push_each.Goals as goal
 
 pub loop-place-preserved : goal.loop-place-preserved

@@ -1,8 +1,5 @@
-use Rattle.std.proofs.Common.{◌≡◌, ◌++◌, take}
-use Rattle.std.specs.List.{flat_map}
-use Rattle.class_model.specs.Numbers.{numbers_of}
-use Rattle.class_table.specs.Keys.{table_keys}
-use Rattle.plain_machine.specs.ClassText.{heap_text}
+use Rattle.world_text.proofs.Below.{take, flat_map, numbers_of, table_keys, heap_text}
+use Rattle.std.proofs.Common.{◌≡◌, ◌++◌}
 use Rattle.world_text.proofs.class_lines.push_each.Given as goal
 
 abbrev pub invariant-loop-place : goal.invariant-loop-place

@@ -1,11 +1,4 @@
-use Rattle.std.proofs.Common.{ap, arith}
-use Rattle.std.proofs.lemmas.Bool.Decides.{nat_tests}
-use Rattle.py_node.specs.declared.refs.PyTypeRef.{PyTypeRef}
-use Rattle.reply_text.proofs.Members.{member_more, written_more}
-use Rattle.class_table.proofs.Along.{held-at}
-use Rattle.plain_machine.specs.World.{or_empty}
-use Rattle.plain_machine.specs.ClassText.{name_at}
-use Rattle.world_text.proofs.ClassText.{names-end}
+use Rattle.world_text.proofs.Lemmas.{ap, arith, nat_tests, PyTypeRef, member_more, written_more, held-at, or_empty, name_at, names-end}
 use Rattle.world_text.proofs.class_lines.push_members.Goals as goal
 
 abbrev first : PyTypeRef

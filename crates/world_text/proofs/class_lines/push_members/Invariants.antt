@@ -1,8 +1,5 @@
-use Rattle.std.proofs.Common.{◌≡◌, ◌++◌, take, map, eqb}
-use Rattle.std.specs.Prelude.{codes}
-use Rattle.plain_machine.specs.Escapes.{escaped}
-use Rattle.plain_machine.specs.Lines.{joined}
-use Rattle.plain_machine.specs.ClassText.{name_at}
+use Rattle.world_text.proofs.Below.{take, map, eqb, codes, escaped, joined, name_at}
+use Rattle.std.proofs.Common.{◌≡◌, ◌++◌}
 use Rattle.world_text.proofs.class_lines.push_members.Given as goal
 
 abbrev pub invariant-loop-class : goal.invariant-loop-class

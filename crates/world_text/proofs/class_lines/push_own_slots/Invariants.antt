@@ -1,8 +1,5 @@
-use Rattle.std.proofs.Common.{◌≡◌, ◌++◌, map, take}
-use Rattle.std.specs.List.{flat_map}
-use Rattle.plain_machine.specs.ClassLines.{slot_word}
-use Rattle.class_table.specs.Keys.{table_keys}
-use Rattle.plain_machine.specs.ClassText.{own_words}
+use Rattle.world_text.proofs.Below.{map, take, flat_map, slot_word, table_keys, own_words}
+use Rattle.std.proofs.Common.{◌≡◌, ◌++◌}
 use Rattle.world_text.proofs.class_lines.push_own_slots.Given as goal
 
 abbrev pub invariant-loop-row : goal.invariant-loop-row

@@ -1,12 +1,4 @@
-use Rattle.std.proofs.Common.{ℕ, ap, String}
-use Rattle.std.specs.declared.alloc.Global.{Global}
-use Rattle.py_node.specs.declared.refs.PyStrInterned.{PyStrInterned}
-use Rattle.py_node.specs.declared.expr.FuncParts.{FuncParts}
-use Rattle.py_node.specs.declared.expr.CallParts.{CallParts}
-use Rattle.py_node.specs.declared.expr.ClassParts.{ClassParts}
-use Rattle.py_node.specs.declared.expr.Expr.{Expr}
-use Rattle.world_text.proofs.Adding.{adds-itself, adds-on, tree-as, name-stays, names-stay, tree-stays, trees-stay, pairs-stay, entries-stay, stored, no-tree, no-pair, no-entry, trees-next, pairs-next, entries-next}
-use Rattle.world_text.proofs.Forms.{call-form, class-form, attr-form, bind-form, del_attr-form, dict-form, func-form, if-form, list-form, op-form, seq-form, set_attr-form, tuple-form}
+use Rattle.world_text.proofs.Lemmas.{ℕ, ap, String, Global, PyStrInterned, FuncParts, CallParts, ClassParts, Expr, adds-itself, adds-on, tree-as, name-stays, names-stay, tree-stays, trees-stay, pairs-stay, entries-stay, stored, no-tree, no-pair, no-entry, trees-next, pairs-next, entries-next, call-form, class-form, attr-form, bind-form, del_attr-form, dict-form, func-form, if-form, list-form, op-form, seq-form, set_attr-form, tuple-form}
 use Rattle.world_text.proofs.expressions.+store.Goals as goal
 
 pub store-add_form-requires : goal.store-add_form-requires

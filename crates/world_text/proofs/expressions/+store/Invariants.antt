@@ -1,6 +1,4 @@
-use Rattle.std.proofs.Common.{take, map}
-use Rattle.py_node.specs.Tree.{tree_of, part_of, pair_of}
-use Rattle.world_text.specs.Store.{Adds, HasTrees, HasPairs, HasEntries}
+use Rattle.world_text.proofs.Below.{take, map, tree_of, part_of, pair_of, Adds, HasTrees, HasPairs, HasEntries}
 use Rattle.world_text.proofs.expressions.+store.Given as goal
 
 abbrev pub invariant-store_each-loop-expr : goal.invariant-store_each-loop-expr

@@ -1,4 +1,4 @@
-use Rattle.world_text.proofs.Adding.{named}
+use Rattle.world_text.proofs.Lemmas.{named}
 use Rattle.world_text.proofs.expressions.name_of.Goals as goal
 
 pub returns-clause-name : goal.returns-clause-name

@@ -1,4 +1,4 @@
-use Rattle.world_text.proofs.Adding.{adds-itself, adds-on, names-stay, no-name, names-next}
+use Rattle.world_text.proofs.Lemmas.{adds-itself, adds-on, names-stay, no-name, names-next}
 use Rattle.world_text.proofs.expressions.names_of.Goals as goal
 
 pub loop-text-init : goal.loop-text-init

@@ -1,6 +1,4 @@
-use Rattle.std.proofs.Common.{take}
-use Rattle.py_node.specs.Tree.{texts_of}
-use Rattle.world_text.specs.Store.{Adds, HasNames}
+use Rattle.world_text.proofs.Below.{take, texts_of, Adds, HasNames}
 use Rattle.world_text.proofs.expressions.names_of.Given as goal
 
 abbrev pub invariant-loop-text : goal.invariant-loop-text

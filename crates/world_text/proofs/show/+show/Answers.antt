@@ -1,13 +1,5 @@
-use Rattle.std.proofs.Common.{◌≡◌, suc, List, sym, ap, ◌∙◌, arith, String, string_bytes}
-use Rattle.std.specs.declared.alloc.Global.{Global}
-use Rattle.py_node.specs.BuiltIns.{place_of}
-use Rattle.py_node.specs.declared.refs.PyObjectRef.{PyObjectRef}
-use Rattle.py_node.specs.declared.payload.Payload.{Payload}
-use Rattle.plain_machine.specs.Show.{item_texts, entry_text, tuple_text, list_text, dict_text, datum_text, containers, text_within}
-use Rattle.class_world.specs.Reading.{Reading, plain, datum}
-use Rattle.class_world.proofs.Stored.{ok-map}
-use Rattle.world_text.specs.Inside.{texts_of, inside, or_dots}
-use Rattle.world_text.proofs.Shown.{items-shown, part-there, item-there, inside-less, tuple-text, list-text, dict-text}
+use Rattle.world_text.proofs.Lemmas.{suc, List, sym, ap, ◌∙◌, arith, String, string_bytes, Global, place_of, PyObjectRef, Payload, item_texts, entry_text, tuple_text, list_text, dict_text, datum_text, containers, text_within, Reading, plain, datum, ok-map, texts_of, inside, or_dots, items-shown, part-there, item-there, inside-less, tuple-text, list-text, dict-text}
+use Rattle.std.proofs.Common.{◌≡◌}
 use Rattle.world_text.proofs.show.+show.Goals as goal
 
 pub item_texts-text_within-requires : goal.item_texts-text_within-requires

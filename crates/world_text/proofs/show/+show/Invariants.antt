@@ -1,6 +1,5 @@
-use Rattle.std.proofs.Common.{◌≡◌, ◌+◌, ◌*◌, take, map, string_bytes}
-use Rattle.plain_machine.specs.Show.{text_within, entry_text}
-use Rattle.class_world.specs.Reading.{Reading, plain}
+use Rattle.world_text.proofs.Below.{take, map, string_bytes, text_within, entry_text, Reading, plain}
+use Rattle.std.proofs.Common.{◌≡◌, ◌+◌, ◌*◌}
 use Rattle.world_text.proofs.show.+show.Given as goal
 
 -- items are shown one less deep, and each function comes before those that it calls

@@ -1,4 +1,4 @@
-use Rattle.world_text.proofs.Shown.{rest-shown}
+use Rattle.world_text.proofs.Lemmas.{rest-shown}
 use Rattle.world_text.proofs.show.push_rest.Goals as goal
 
 pub returns-in_ok-push : goal.returns-in_ok-push

@@ -1,5 +1,5 @@
-use Rattle.std.proofs.Common.{◌∷◌, [], ◌∙◌}
-use Rattle.world_text.proofs.Shown.{join-read}
+use Rattle.world_text.proofs.Lemmas.{[], ◌∙◌, join-read}
+use Rattle.std.proofs.Common.{◌∷◌}
 use Rattle.world_text.proofs.show.with_commas.Goals as goal
 
 pub returns : goal.returns

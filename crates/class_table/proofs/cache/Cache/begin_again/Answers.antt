@@ -1,8 +1,4 @@
-use Rattle.std.proofs.Common.{List, Option, sym, subst, arith}
-use Rattle.std.proofs.lemmas.List.{with_items_is}
-use Rattle.class_table.specs.declared.cache.Row.{Row}
-use Rattle.class_table.specs.Cache.{AreEmpty}
-use Rattle.class_table.proofs.Cached.{empty_cached}
+use Rattle.class_table.proofs.Lemmas.{List, Option, sym, subst, arith, with_items_is, Row, AreEmpty, empty_cached}
 use Rattle.class_table.proofs.cache.Cache.begin_again.Goals as goal
 
 pub returns : goal.returns

@@ -1,7 +1,5 @@
-use Rattle.std.proofs.Common.{◌≡◌, Some, set, refl, ◌∙◌, rules, arith}
-use Rattle.std.proofs.lemmas.List.{with_items_is}
-use Rattle.class_table.specs.declared.cache.Row.{Row}
-use Rattle.class_table.proofs.Cached.{filled_cached}
+use Rattle.class_table.proofs.Lemmas.{Some, set, refl, ◌∙◌, rules, arith, with_items_is, Row, filled_cached}
+use Rattle.std.proofs.Common.{◌≡◌}
 use Rattle.class_table.proofs.cache.Cache.put.Goals as goal
 
 pub returns : goal.returns

@@ -1,5 +1,4 @@
-use Rattle.std.proofs.Common.{refl}
-use Rattle.class_table.proofs.Cached.{raised_cached}
+use Rattle.class_table.proofs.Lemmas.{refl, raised_cached}
 use Rattle.class_table.proofs.cache.Cache.raise.Goals as goal
 
 pub returns : goal.returns

@@ -1,4 +1,4 @@
-use Rattle.class_table.proofs.Cached.{empty_cached}
+use Rattle.class_table.proofs.Lemmas.{empty_cached}
 use Rattle.class_table.proofs.cache.Cache.with_rows.Goals as goal
 
 pub returns : goal.returns

@@ -1,9 +1,5 @@
-use Rattle.std.proofs.Common.{◌≡◌, List, ◌++◌, ◌∷◌, [], length, map, refl, ap, ◌∙◌, arith}
-use Rattle.py_node.specs.declared.refs.PyTypeRef.{PyTypeRef}
-use Rattle.class_table.specs.Keys.{numbers}
-use Rattle.class_table.specs.Lines.{part_of}
-use Rattle.class_table.specs.declared.lines.Part.{Part}
-use Rattle.class_table.proofs.Lined.{lines-added}
+use Rattle.class_table.proofs.Lemmas.{List, [], length, map, refl, ap, ◌∙◌, arith, PyTypeRef, numbers, part_of, Part, lines-added}
+use Rattle.std.proofs.Common.{◌≡◌, ◌++◌, ◌∷◌}
 use Rattle.class_table.proofs.lines.Lines.add.Goals as goal
 
 pub returns-clause-ok : goal.returns-clause-ok

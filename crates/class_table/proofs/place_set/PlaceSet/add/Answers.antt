@@ -1,5 +1,4 @@
-use Rattle.std.proofs.Common.{ap, ◌∙◌}
-use Rattle.class_table.proofs.Descended.{with_place, insert_key-place}
+use Rattle.class_table.proofs.Lemmas.{ap, ◌∙◌, with_place, insert_key-place}
 use Rattle.class_table.proofs.place_set.PlaceSet.add.Goals as goal
 
 pub returns : goal.returns

@@ -1,6 +1,4 @@
-use Rattle.std.proofs.Common.{subst}
-use Rattle.class_model.specs.Order.{Distinct}
-use Rattle.class_table.proofs.Descended.{distinct-keys}
+use Rattle.class_table.proofs.Lemmas.{subst, Distinct, distinct-keys}
 use Rattle.class_table.proofs.place_set.PlaceSet.at.Goals as goal
 
 pub returns-clause-distinct : goal.returns-clause-distinct

@@ -1,12 +1,5 @@
-use Rattle.std.proofs.Common.{◌≡◌, ℕ, List, eqb, Option, Some, None, IfSome, IfNone, position, sym, ap, subst, ◌∙◌}
-use Rattle.std.specs.Prelude.{slice_get, is_some}
-use Rattle.std.specs.List.{list_any}
-use Rattle.std.proofs.lemmas.Bool.{eqb-true, false≢true}
-use Rattle.std.proofs.lemmas.List.Quantifiers.{position-Some}
-use Rattle.std.proofs.lemmas.Option.{slice_get-get_or}
-use Rattle.class_model.specs.Order.{Distinct, Includes}
-use Rattle.class_model.proofs.Tests.{Decides-has}
-use Rattle.class_table.proofs.Descended.{any-has, distinct-keys}
+use Rattle.class_table.proofs.Lemmas.{ℕ, List, eqb, Option, Some, None, IfSome, IfNone, position, sym, ap, subst, ◌∙◌, slice_get, is_some, list_any, eqb-true, false≢true, position-Some, slice_get-get_or, Distinct, Includes, Decides-has, any-has, distinct-keys}
+use Rattle.std.proofs.Common.{◌≡◌}
 use Rattle.class_table.proofs.place_set.PlaceSet.index_of.Goals as goal
 
 there : (ks : List ℕ) (p : ℕ) (o : Option ℕ) → o ≡ position (eqb p) ks → IfSome o (λ j. slice_get ks j ≡ Some p)

@@ -1,5 +1,5 @@
-use Rattle.std.proofs.Common.{refl, ◌++◌, ◌∷◌, []}
-use Rattle.class_table.proofs.Lined.{inside-of, edited-ok, edited-err, edited-either}
+use Rattle.class_table.proofs.Lemmas.{refl, [], inside-of, edited-ok, edited-err, edited-either}
+use Rattle.std.proofs.Common.{◌++◌, ◌∷◌}
 use Rattle.class_table.proofs.stored_classes.StoredClasses.add_subclass.Goals as goal
 
 pub add_subclass-requires : goal.add_subclass-requires

@@ -1,8 +1,5 @@
-use Rattle.std.proofs.Common.{◌≡◌, List, [], get_or, sym, ap, ◌∙◌, arith}
-use Rattle.std.proofs.lemmas.List.{get_or_default}
-use Rattle.class_table.specs.Stored.{StoredClass}
-use Rattle.class_table.specs.Lines.{with_line}
-use Rattle.class_table.proofs.Lined.{inside-of, with-lines-at}
+use Rattle.class_table.proofs.Lemmas.{List, [], get_or, sym, ap, ◌∙◌, arith, get_or_default, StoredClass, with_line, inside-of, with-lines-at}
+use Rattle.std.proofs.Common.{◌≡◌}
 use Rattle.class_table.proofs.stored_classes.StoredClasses.at.Goals as goal
 
 pub index-requires : goal.index-requires

@@ -1,8 +1,5 @@
-use Rattle.std.proofs.Common.{◌≡◌, List, [], ◌∷◌, ◌++◌, length, get_or, set, refl, sym, ap, subst, ◌∙◌}
-use Rattle.std.proofs.lemmas.List.{length-map}
-use Rattle.class_table.specs.Stored.{StoredClass, class_of, classes_of}
-use Rattle.class_table.specs.Lines.{with_lines}
-use Rattle.class_table.proofs.Lined.{inside-of, with-lines-at, edited, plain-lines}
+use Rattle.class_table.proofs.Lemmas.{List, [], length, get_or, set, refl, sym, ap, subst, ◌∙◌, length-map, StoredClass, class_of, classes_of, with_lines, inside-of, with-lines-at, edited, plain-lines}
+use Rattle.std.proofs.Common.{◌≡◌, ◌∷◌, ◌++◌}
 use Rattle.class_table.proofs.stored_classes.StoredClasses.forget_subclass.Goals as goal
 
 pub forget_subclass-requires : goal.forget_subclass-requires

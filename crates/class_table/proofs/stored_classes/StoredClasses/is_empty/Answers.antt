@@ -1,6 +1,5 @@
-use Rattle.std.proofs.Common.{◌≡◌, ◌==◌, length, ap, sym, ◌∙◌, arith}
-use Rattle.std.specs.Prelude.{vec_len}
-use Rattle.class_table.proofs.Lined.{with-lines-length}
+use Rattle.class_table.proofs.Lemmas.{length, ap, sym, ◌∙◌, arith, vec_len, with-lines-length}
+use Rattle.std.proofs.Common.{◌≡◌, ◌==◌}
 use Rattle.class_table.proofs.stored_classes.StoredClasses.is_empty.Goals as goal
 
 pub returns : goal.returns

@@ -1,5 +1,4 @@
-use Rattle.std.proofs.Common.{length, sym, ap, ◌∙◌, arith}
-use Rattle.class_table.proofs.Lined.{with-lines-length}
+use Rattle.class_table.proofs.Lemmas.{length, sym, ap, ◌∙◌, arith, with-lines-length}
 use Rattle.class_table.proofs.stored_classes.StoredClasses.len.Goals as goal
 
 pub returns : goal.returns

@@ -1,9 +1,5 @@
-use Rattle.std.proofs.Common.{◌≡◌, List, [], ◌∷◌, ◌++◌, ap, ◌∙◌}
-use Rattle.py_node.specs.declared.refs.PyTypeRef.{PyTypeRef}
-use Rattle.class_table.specs.Keys.{numbers}
-use Rattle.class_table.specs.Stored.{StoredClass}
-use Rattle.class_table.specs.Lines.{with_line, with_lines}
-use Rattle.class_table.proofs.Lined.{with-lines-push}
+use Rattle.class_table.proofs.Lemmas.{List, [], ap, ◌∙◌, PyTypeRef, numbers, StoredClass, with_line, with_lines, with-lines-push}
+use Rattle.std.proofs.Common.{◌≡◌, ◌∷◌, ◌++◌}
 use Rattle.class_table.proofs.stored_classes.StoredClasses.push.Goals as goal
 
 pub returns-in-Ok-clause-ok : goal.returns-in-Ok-clause-ok

@@ -1,6 +1,4 @@
-use Rattle.std.proofs.Common.{length, sym, ap, ◌∙◌}
-use Rattle.class_table.specs.Lines.{with_lines}
-use Rattle.class_table.proofs.Lined.{with-lines-length, with-lines-again}
+use Rattle.class_table.proofs.Lemmas.{length, sym, ap, ◌∙◌, with_lines, with-lines-length, with-lines-again}
 use Rattle.class_table.proofs.stored_classes.StoredClasses.reline.Goals as goal
 
 pub invariant_of-self : goal.invariant_of-self

@@ -1,8 +1,5 @@
-use Rattle.std.proofs.Common.{◌≡◌, List, [], sym, get_or, refl, ap, subst, ◌∙◌}
-use Rattle.std.specs.Prelude.{is_some}
-use Rattle.py_node.specs.Attributes.{value_of, without_key, is_same_name}
-use Rattle.class_table.specs.Stored.{StoredClass}
-use Rattle.class_table.proofs.Lined.{inside-of, with-lines-at, edited-seen, edited-count}
+use Rattle.class_table.proofs.Lemmas.{List, [], sym, get_or, refl, ap, subst, ◌∙◌, is_some, value_of, without_key, is_same_name, StoredClass, inside-of, with-lines-at, edited-seen, edited-count}
+use Rattle.std.proofs.Common.{◌≡◌}
 use Rattle.class_table.proofs.stored_classes.StoredClasses.remove_attr.Goals as goal
 
 pub remove_attr-requires : goal.remove_attr-requires

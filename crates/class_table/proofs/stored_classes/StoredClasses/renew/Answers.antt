@@ -1,6 +1,4 @@
-use Rattle.std.proofs.Common.{refl}
-use Rattle.class_table.specs.Renewed.{renewed_but_line}
-use Rattle.class_table.proofs.Lined.{inside-of, edited-seen, edited-count}
+use Rattle.class_table.proofs.Lemmas.{refl, renewed_but_line, inside-of, edited-seen, edited-count}
 use Rattle.class_table.proofs.stored_classes.StoredClasses.renew.Goals as goal
 
 pub renew-requires : goal.renew-requires

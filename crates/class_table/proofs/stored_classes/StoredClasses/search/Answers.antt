@@ -1,9 +1,4 @@
-use Rattle.std.proofs.Common.{List, rules, sym, ap, ◌∙◌}
-use Rattle.std.proofs.lemmas.List.Sorted.{answers_always}
-use Rattle.class_model.specs.Class.{class_at}
-use Rattle.class_table.specs.Stored.{StoredClass, number_at, classes_of}
-use Rattle.class_table.proofs.Found.{searched-place, searched-none}
-use Rattle.class_table.proofs.Lined.{plain-of, number-lined, ascends-lined}
+use Rattle.class_table.proofs.Lemmas.{List, rules, sym, ap, ◌∙◌, answers_always, class_at, StoredClass, number_at, classes_of, searched-place, searched-none, plain-of, number-lined, ascends-lined}
 use Rattle.class_table.proofs.stored_classes.StoredClasses.search.Goals as goal
 
 pub returns-in-Ok-clause-place : goal.returns-in-Ok-clause-place

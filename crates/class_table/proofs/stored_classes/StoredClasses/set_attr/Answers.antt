@@ -1,6 +1,4 @@
-use Rattle.std.proofs.Common.{refl}
-use Rattle.py_node.specs.Attributes.{with_value, is_same_name}
-use Rattle.class_table.proofs.Lined.{inside-of, edited-ok, edited-err, edited-either}
+use Rattle.class_table.proofs.Lemmas.{refl, with_value, is_same_name, inside-of, edited-ok, edited-err, edited-either}
 use Rattle.class_table.proofs.stored_classes.StoredClasses.set_attr.Goals as goal
 
 pub set_attr-requires : goal.set_attr-requires

@@ -1,6 +1,4 @@
-use Rattle.std.proofs.Common.{refl}
-use Rattle.class_table.specs.Keys.{numbers}
-use Rattle.class_table.proofs.Lined.{inside-of, edited-seen, edited-count}
+use Rattle.class_table.proofs.Lemmas.{refl, numbers, inside-of, edited-seen, edited-count}
 use Rattle.class_table.proofs.stored_classes.StoredClasses.set_bases.Goals as goal
 
 pub set_bases-requires : goal.set_bases-requires

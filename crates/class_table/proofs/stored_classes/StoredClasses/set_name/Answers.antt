@@ -1,5 +1,4 @@
-use Rattle.std.proofs.Common.{refl, string_bytes}
-use Rattle.class_table.proofs.Lined.{inside-of, edited-seen, edited-count}
+use Rattle.class_table.proofs.Lemmas.{refl, string_bytes, inside-of, edited-seen, edited-count}
 use Rattle.class_table.proofs.stored_classes.StoredClasses.set_name.Goals as goal
 
 pub set_name-requires : goal.set_name-requires

@@ -1,6 +1,4 @@
-use Rattle.std.proofs.Common.{refl, set}
-use Rattle.py_node.specs.Slots.{place_of}
-use Rattle.class_table.proofs.Lined.{inside-of, edited-seen, edited-count}
+use Rattle.class_table.proofs.Lemmas.{refl, set, place_of, inside-of, edited-seen, edited-count}
 use Rattle.class_table.proofs.stored_classes.StoredClasses.set_slot.Goals as goal
 
 pub set_slot-requires : goal.set_slot-requires

@@ -1,5 +1,4 @@
-use Rattle.std.proofs.Common.{[], ap, ◌∙◌}
-use Rattle.class_table.specs.Stored.{StoredClass}
+use Rattle.class_table.proofs.Lemmas.{[], ap, ◌∙◌, StoredClass}
 use Rattle.class_table.proofs.stored_ref.StoredRef.mro.Goals as goal
 
 pub at-requires : goal.at-requires

@@ -1,16 +1,5 @@
-use Rattle.std.proofs.Common.{◌≡◌, ℕ, ◌≤◌, List, None, length, sym, subst, arith}
-use Rattle.std.proofs.lemmas.List.{length-map}
-use Rattle.py_node.specs.declared.refs.PyStrInterned.{PyStrInterned}
-use Rattle.py_node.specs.declared.refs.PyTypeRef.{PyTypeRef}
-use Rattle.class_model.specs.Class.{Classes}
-use Rattle.class_model.specs.Sound.{AreSound}
-use Rattle.class_table.specs.Keys.{numbers}
-use Rattle.class_table.specs.Stored.{classes_of}
-use Rattle.class_table.specs.New.{IsBelow}
-use Rattle.class_table.specs.Refused.{refused_order}
-use Rattle.class_table.proofs.Pushed.{there-of}
-use Rattle.class_table.proofs.Single.{one-ordered}
-use Rattle.class_table.proofs.Cached.{coherent-then}
+use Rattle.class_table.proofs.Lemmas.{ℕ, List, None, length, sym, subst, arith, length-map, PyStrInterned, PyTypeRef, Classes, AreSound, numbers, classes_of, IsBelow, refused_order, there-of, one-ordered, coherent-then}
+use Rattle.std.proofs.Common.{◌≡◌, ◌≤◌}
 use Rattle.class_table.proofs.table.ClassTable.add_class.Goals as goal
 
 -- at most one base has an order

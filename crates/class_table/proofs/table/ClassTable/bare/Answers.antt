@@ -1,14 +1,6 @@
-use Rattle.std.proofs.Common.{◌≡◌, ◌<◌, Some, map, take, add-one, ap, sym, subst, ◌∙◌, arith, true}
-use Rattle.py_node.specs.declared.built_in.BuiltIn.TheVariants.{Object}
-use Rattle.py_node.specs.declared.refs.PyStrInterned.{PyStrInterned}
-use Rattle.std.proofs.lemmas.List.{length-map}
-use Rattle.py_node.specs.declared.refs.PyTypeRef.{PyTypeRef}
-use Rattle.class_table.specs.Keys.{numbers}
-use Rattle.class_model.specs.Class.{Class}
-use Rattle.py_node.specs.BuiltIns.{place_of, base_of, all_built_ins}
-use Rattle.class_model.specs.Start.{built_class}
-use Rattle.class_model.specs.Dict.{says_dict, has_its_dict}
-use Rattle.class_table.proofs.StartParts.{base_below, map-step, map-end, built-below, built-count, in-row, one-below, one-long, made-place, made-there, made-limit, built-dict}
+use Rattle.class_table.proofs.Lemmas.{Some, map, take, add-one, ap, sym, subst, ◌∙◌, arith, true, Object, PyStrInterned, length-map, PyTypeRef, numbers, Class, base_of, all_built_ins, built_class, says_dict, has_its_dict, base_below, map-step, map-end, built-below, built-count, in-row, one-below, one-long, made-place, made-there, made-limit, built-dict}
+use Rattle.std.proofs.Common.{◌≡◌, ◌<◌}
+use Rattle.py_node.specs.BuiltIns.{place_of}
 use Rattle.class_table.proofs.table.ClassTable.bare.Goals as goal
 
 pub loop-row-preserved : goal.loop-row-preserved

@@ -1,6 +1,5 @@
-use Rattle.std.proofs.Common.{◌≡◌, map, take}
-use Rattle.py_node.specs.BuiltIns.{all_built_ins}
-use Rattle.class_model.specs.Start.{built_class}
+use Rattle.class_table.proofs.Below.{map, take, all_built_ins, built_class}
+use Rattle.std.proofs.Common.{◌≡◌}
 use Rattle.class_table.proofs.table.ClassTable.bare.Given as goal
 
 abbrev pub invariant-loop-row : goal.invariant-loop-row

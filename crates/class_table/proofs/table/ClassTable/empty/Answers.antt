@@ -1,6 +1,4 @@
-use Rattle.std.proofs.Common.{List, [], sym, subst, rules}
-use Rattle.class_table.specs.Stored.{StoredClass}
-use Rattle.class_table.specs.Coherent.{IsCoherent}
+use Rattle.class_table.proofs.Lemmas.{List, [], sym, subst, rules, StoredClass, IsCoherent}
 use Rattle.class_table.proofs.table.ClassTable.empty.Goals as goal
 
 pub invariant_of-result : goal.invariant_of-result

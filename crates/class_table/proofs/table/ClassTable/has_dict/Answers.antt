@@ -1,7 +1,5 @@
-use Rattle.std.proofs.Common.{rules, ◌≡◌, subst, ◌∙◌}
-use Rattle.class_model.specs.Dict.{has_dict}
-use Rattle.class_model.specs.Sound.{AreSound}
-use Rattle.class_model.proofs.Dict.{has-gives}
+use Rattle.class_table.proofs.Lemmas.{rules, subst, ◌∙◌, has_dict, AreSound, has-gives}
+use Rattle.std.proofs.Common.{◌≡◌}
 use Rattle.class_table.proofs.table.ClassTable.has_dict.Goals as goal
 
 pub returns-clause-gives : goal.returns-clause-gives

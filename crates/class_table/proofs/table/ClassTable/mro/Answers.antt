@@ -1,7 +1,5 @@
-use Rattle.std.proofs.Common.{rules, ◌≡◌, Some}
-use Rattle.class_model.specs.Class.{lin}
-use Rattle.class_model.proofs.Rule.{lin-least}
-use Rattle.class_table.specs.Keys.{numbers}
+use Rattle.class_table.proofs.Lemmas.{rules, Some, lin, lin-least, numbers}
+use Rattle.std.proofs.Common.{◌≡◌}
 use Rattle.class_table.proofs.table.ClassTable.mro.Goals as goal
 
 pub returns-clause-least : goal.returns-clause-least

@@ -1,4 +1,4 @@
-use Rattle.std.proofs.Common.{◌∙◌}
+use Rattle.class_table.proofs.Lemmas.{◌∙◌}
 use Rattle.class_table.proofs.table.ClassTable.new.Goals as goal
 
 pub returns : goal.returns

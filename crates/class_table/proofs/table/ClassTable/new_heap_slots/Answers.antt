@@ -1,9 +1,5 @@
-use Rattle.std.proofs.Common.{subst}
-use Rattle.class_table.specs.Keys.{numbers}
-use Rattle.class_table.specs.Stored.{classes_of}
-use Rattle.class_table.specs.Causes.{AreTold}
+use Rattle.class_table.proofs.Lemmas.{subst, numbers, classes_of, AreTold, coherent-then}
 use Rattle.class_table.proofs.InWords.{told}
-use Rattle.class_table.proofs.Cached.{coherent-then}
 use Rattle.class_table.proofs.table.ClassTable.new_heap_slots.Goals as goal
 
 pub returns-clause-empty : goal.returns-clause-empty

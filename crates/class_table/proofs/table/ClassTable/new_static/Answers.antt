@@ -1,6 +1,4 @@
-use Rattle.std.proofs.Common.{ap, ◌∙◌}
-use Rattle.class_table.specs.OneBase.{says_so}
-use Rattle.class_table.proofs.Dicts.{static-says}
+use Rattle.class_table.proofs.Lemmas.{ap, ◌∙◌, says_so, static-says}
 use Rattle.class_table.proofs.table.ClassTable.new_static.Goals as goal
 
 pub new_single-requires-clause-dict : goal.new_single-requires-clause-dict

@@ -1,4 +1,4 @@
-use Rattle.class_table.proofs.Cached.{coherent-then}
+use Rattle.class_table.proofs.Lemmas.{coherent-then}
 use Rattle.class_table.proofs.table.ClassTable.set_attr.Goals as goal
 
 pub invariant_of-self : goal.invariant_of-self

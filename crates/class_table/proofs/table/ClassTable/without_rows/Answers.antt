@@ -1,9 +1,4 @@
-use Rattle.std.proofs.Common.{sym, ap, subst, ◌∙◌}
-use Rattle.py_node.specs.declared.refs.PyStrInterned.{PyStrInterned}
-use Rattle.py_node.specs.BuiltIns.{fixed_node_count}
-use Rattle.class_model.specs.Class.{Classes}
-use Rattle.class_table.specs.Start.{HasBuiltIns, with_each_own, start_classes}
-use Rattle.class_table.proofs.Owned.{built-there}
+use Rattle.class_table.proofs.Lemmas.{sym, ap, subst, ◌∙◌, PyStrInterned, fixed_node_count, Classes, HasBuiltIns, with_each_own, start_classes, built-there}
 use Rattle.class_table.proofs.table.ClassTable.without_rows.Goals as goal
 
 pub add_own_attrs-requires : goal.add_own_attrs-requires

@@ -1,6 +1,4 @@
-use Rattle.std.proofs.Common.{drop}
-use Rattle.class_view.proofs.Feeding.{added_last, grows}
-use Rattle.class_log.specs.Change.{change_of}
+use Rattle.class_view.proofs.Lemmas.{drop, added_last, grows, change_of}
 use Rattle.class_view.proofs.press.Press.append.Goals as goal
 
 pub invariant_of-self : goal.invariant_of-self

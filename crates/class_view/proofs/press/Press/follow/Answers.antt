@@ -1,5 +1,4 @@
-use Rattle.std.proofs.Common.{drop}
-use Rattle.class_view.proofs.Feeding.{grows}
+use Rattle.class_view.proofs.Lemmas.{drop, grows}
 use Rattle.class_view.proofs.press.Press.follow.Goals as goal
 
 pub invariant_of-self : goal.invariant_of-self

@@ -1,10 +1,5 @@
-use Rattle.std.proofs.Common.{◌≡◌, ◌≤◌, ◌++◌, List, length, drop, true, sym, ap, ◌∙◌, rules}
-use Rattle.left_right.specs.Sides.{view}
-use Rattle.class_view.specs.declared.rule.View.{View}
-use Rattle.class_log.specs.Change.{Change}
-use Rattle.class_view.specs.Posted.{posted}
-use Rattle.class_view.proofs.Keeping.{rises, fold_adds}
-use Rattle.class_view.proofs.Feeding.{settles, gives}
+use Rattle.class_view.proofs.Lemmas.{List, length, drop, true, sym, ap, ◌∙◌, rules, view, View, Change, posted, rises, fold_adds, settles, gives}
+use Rattle.std.proofs.Common.{◌≡◌, ◌≤◌, ◌++◌}
 use Rattle.class_view.proofs.press.Press.publish.Goals as goal
 
 pub publish_as-publisher-requires : goal.publish_as-publisher-requires

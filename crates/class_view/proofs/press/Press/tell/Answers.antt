@@ -1,5 +1,4 @@
-use Rattle.left_right.specs.Sides.{view}
-use Rattle.class_view.proofs.Keeping.{admits, forks, merges}
+use Rattle.class_view.proofs.Lemmas.{view, admits, forks, merges}
 use Rattle.class_view.proofs.press.Press.tell.Goals as goal
 
 pub reader-requires : goal.reader-requires

@@ -1,10 +1,5 @@
-use Rattle.std.proofs.Common.{arith, length-append, ◌∷◌, []}
-use Rattle.class_world.specs.contracts.world.World.{the_view}
-use Rattle.class_world.specs.Sound.{Holds, of_form}
-use Rattle.class_world.proofs.Claims.{opened}
-use Rattle.class_world.proofs.Growth.{form-grows, grows-seen}
-use Rattle.class_world.proofs.Changes.{form-sound}
-use Rattle.class_world.proofs.Look.{form-reads, form-added}
+use Rattle.class_world.proofs.Lemmas.{arith, length-append, [], the_view, Holds, of_form, opened, form-grows, grows-seen, form-sound, form-reads, form-added}
+use Rattle.std.proofs.Common.{◌∷◌}
 use Rattle.class_world.proofs.world.World.add_form.Goals as goal
 
 pub invariant_of-self-2 : goal.invariant_of-self-2

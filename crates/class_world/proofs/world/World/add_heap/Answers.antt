@@ -1,24 +1,5 @@
-use Rattle.std.proofs.Common.{◌≡◌, ℕ, Some, IfOk, OnOk, [], ◌∷◌, ◌++◌, refl, ap, subst, ◌∙◌, ◌||◌, length}
-use Rattle.std.proofs.lemmas.Result.{on_ok_weaker}
-use Rattle.class_model.specs.Layout.{best_of}
-use Rattle.py_node.specs.declared.built_in.BuiltIn.{BuiltIn}
-use Rattle.py_node.specs.declared.built_in.BuiltIn.TheVariants.{TypeType}
-use Rattle.class_model.specs.Dict.{any_has_dict, heap_class, slots_bring}
-use Rattle.class_table.specs.Keys.{numbers, table_keys, slot_names}
-use Rattle.class_table.specs.Refused.{refused_bases, refusal, WithMemory}
-use Rattle.plain_machine.specs.World.{with_new_class}
-use Rattle.class_log.specs.Logged.{made_by_script}
-use Rattle.class_log.proofs.Logged.{keeps-more}
-use Rattle.class_world.specs.Held.{Held}
-use Rattle.class_world.specs.contracts.world.World.{the_view}
-use Rattle.class_world.specs.NewHeap.{of_slots}
-use Rattle.class_world.specs.Reading.{plain}
-use Rattle.class_world.specs.Sound.{IsClass, IsOf, Holds, of_binding, of_class_ref, of_each}
-use Rattle.class_world.proofs.Claims.{opened, opened-one}
-use Rattle.class_world.proofs.Growth.{grows-seen}
-use Rattle.class_world.proofs.ClassChanges.{room, bases-there}
-use Rattle.class_world.proofs.HeapClass.{heap-unmarked, members-named, class-read}
-use Rattle.class_world.proofs.MadeClass.{IsMade, sound-after, plain-after, number-after, not-after, reads-after, grows-after, class-after, node-after, of-after}
+use Rattle.class_world.proofs.Lemmas.{ℕ, Some, IfOk, OnOk, [], refl, ap, subst, ◌∙◌, length, on_ok_weaker, best_of, BuiltIn, TypeType, any_has_dict, heap_class, slots_bring, numbers, table_keys, slot_names, refused_bases, refusal, WithMemory, with_new_class, made_by_script, keeps-more, Held, the_view, of_slots, plain, IsClass, IsOf, Holds, of_binding, of_class_ref, of_each, opened, opened-one, grows-seen, room, bases-there, heap-unmarked, members-named, class-read, IsMade, sound-after, plain-after, number-after, not-after, reads-after, grows-after, class-after, node-after, of-after}
+use Rattle.std.proofs.Common.{◌≡◌, ◌∷◌, ◌++◌, ◌||◌}
 use Rattle.class_world.proofs.world.World.add_heap.Goals as goal
 
 pub heap_with_node-made-requires-clause-bases : goal.heap_with_node-made-requires-clause-bases

@@ -1,23 +1,5 @@
-use Rattle.std.proofs.Common.{◌≡◌, Some, IfOk, OnOk, [], ◌∷◌, ◌++◌, refl, sym, subst, ◌||◌, arith, length}
-use Rattle.class_model.specs.Layout.{best_of}
-use Rattle.py_node.specs.declared.built_in.BuiltIn.{BuiltIn}
-use Rattle.py_node.specs.declared.built_in.BuiltIn.TheVariants.{TypeType}
-use Rattle.class_model.specs.Dict.{has_dict}
-use Rattle.class_table.specs.OneBase.{single_class, refused_single, says_so}
-use Rattle.class_table.specs.Refused.{refusal}
-use Rattle.class_table.proofs.Bests.{found}
-use Rattle.class_table.proofs.Heaps.{only-best}
-use Rattle.class_log.specs.Logged.{made_single}
-use Rattle.class_log.proofs.Logged.{keeps-more}
-use Rattle.class_world.specs.Held.{Held}
-use Rattle.class_world.specs.contracts.world.World.{the_view}
-use Rattle.class_world.specs.Sound.{IsClass, IsOf, Holds, of_binding, of_each}
-use Rattle.class_world.proofs.Claims.{opened, opened-one}
-use Rattle.class_world.proofs.Growth.{grows-seen}
-use Rattle.class_world.proofs.ClassChanges.{room}
-use Rattle.class_world.proofs.Stored.{ok-map}
-use Rattle.class_world.proofs.OneBase.{class-there, no-names}
-use Rattle.class_world.proofs.MadeClass.{IsMade, sound-after, plain-after, number-after, not-after, reads-after, grows-after, class-after, node-after, of-after}
+use Rattle.class_world.proofs.Lemmas.{Some, IfOk, OnOk, [], refl, sym, subst, arith, length, best_of, BuiltIn, TypeType, has_dict, single_class, refused_single, says_so, refusal, found, only-best, made_single, keeps-more, Held, the_view, IsClass, IsOf, Holds, of_binding, of_each, opened, opened-one, grows-seen, room, ok-map, class-there, no-names, IsMade, sound-after, plain-after, number-after, not-after, reads-after, grows-after, class-after, node-after, of-after}
+use Rattle.std.proofs.Common.{◌≡◌, ◌∷◌, ◌++◌, ◌||◌}
 use Rattle.class_world.proofs.world.World.add_single.Goals as goal
 
 pub single_with_node-made-requires-clause-base : goal.single_with_node-made-requires-clause-base

@@ -1,14 +1,5 @@
-use Rattle.std.proofs.Common.{◌≡◌, refl, sym, ap, ◌∙◌, ◌∷◌, ◌++◌, [], map, subst}
-use Rattle.std.proofs.lemmas.Result.{on_ok_weaker}
-use Rattle.plain_machine.specs.Plain.{AText}
-use Rattle.plain_machine.specs.Known.{the_str}
-use Rattle.plain_machine.specs.World.{with_node, next_node}
-use Rattle.plain_machine.specs.Dicts.{with_entries}
-use Rattle.class_world.specs.Keyed.{held_entries, held_text, is_held_key}
-use Rattle.class_world.specs.Reading.{plain}
-use Rattle.class_world.specs.Sound.{Holds, IsName, KeysDiffer}
-use Rattle.class_world.proofs.DictEntries.{no-key}
-use Rattle.class_world.proofs.DictReads.{text-read, entries-stay, new-key-differs, new-key-read}
+use Rattle.class_world.proofs.Lemmas.{refl, sym, ap, ◌∙◌, [], map, subst, on_ok_weaker, AText, the_str, with_node, next_node, with_entries, held_entries, held_text, is_held_key, plain, Holds, IsName, KeysDiffer, no-key, text-read, entries-stay, new-key-differs, new-key-read}
+use Rattle.std.proofs.Common.{◌≡◌, ◌∷◌, ◌++◌}
 use Rattle.class_world.proofs.world.World.add_value.Goals as goal
 
 pub push_entry-requires-clause-differs : goal.push_entry-requires-clause-differs

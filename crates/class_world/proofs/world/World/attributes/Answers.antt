@@ -1,7 +1,5 @@
-use Rattle.class_world.specs.contracts.world.World.{the_view}
-use Rattle.class_world.specs.Sound.{Holds, IsClass}
-use Rattle.class_world.proofs.Claims.{opened-one}
-use Rattle.class_world.proofs.Attributes.{own-seen, own-hold}
+use Rattle.class_world.proofs.Lemmas.{the_view, Holds, IsClass, opened-one, own-hold}
+use Rattle.class_world.proofs.Attributes.{own-seen}
 use Rattle.class_world.proofs.world.World.attributes.Goals as goal
 
 pub attributes-requires : goal.attributes-requires

@@ -1,8 +1,4 @@
-use Rattle.class_world.specs.contracts.world.World.{the_view}
-use Rattle.class_world.specs.Sound.{IsName, IsNode}
-use Rattle.class_world.proofs.Claims.{opened-one}
-use Rattle.class_world.proofs.Growth.{grows-seen}
-use Rattle.class_world.proofs.Bound.{bind-sound, bind-read, bind-grows}
+use Rattle.class_world.proofs.Lemmas.{the_view, IsName, IsNode, opened-one, grows-seen, bind-sound, bind-read, bind-grows}
 use Rattle.class_world.proofs.world.World.bind.Goals as goal
 
 pub invariant_of-self : goal.invariant_of-self

@@ -1,10 +1,4 @@
-use Rattle.std.proofs.Common.{ap, ◌∙◌}
-use Rattle.std.specs.Prelude.{is_some}
-use Rattle.class_world.specs.contracts.world.World.{the_view}
-use Rattle.class_world.specs.Sound.{Holds, IsNode}
-use Rattle.class_world.proofs.Claims.{got, opened-one}
-use Rattle.class_world.proofs.KeyEntries.{key-held, one-can}
-use Rattle.class_world.proofs.SoundWorld.{key_at-read}
+use Rattle.class_world.proofs.Lemmas.{ap, ◌∙◌, is_some, the_view, Holds, IsNode, got, opened-one, key-held, one-can, key_at-read}
 use Rattle.class_world.proofs.world.World.can_be_key.Goals as goal
 
 pub index-requires : goal.index-requires

@@ -1,8 +1,4 @@
-use Rattle.std.proofs.Common.{sym, ◌∙◌}
-use Rattle.class_world.specs.contracts.world.World.{the_view}
-use Rattle.class_world.specs.Sound.{Holds, IsClass}
-use Rattle.class_world.proofs.Claims.{opened-one}
-use Rattle.class_world.proofs.Look.{candidates-seen, goes-first-seen}
+use Rattle.class_world.proofs.Lemmas.{sym, ◌∙◌, the_view, Holds, IsClass, opened-one, candidates-seen, goes-first-seen}
 use Rattle.class_world.proofs.world.World.class_candidates.Goals as goal
 
 pub candidates-requires-clause-a : goal.candidates-requires-clause-a

@@ -1,9 +1,4 @@
-use Rattle.std.proofs.Common.{Some, sym, ap, ◌∙◌}
-use Rattle.class_model.specs.Class.{class_at}
-use Rattle.class_world.specs.contracts.world.World.{the_view}
-use Rattle.class_world.specs.Sound.{Holds, IsClass}
-use Rattle.class_world.proofs.Claims.{opened-one}
-use Rattle.class_world.proofs.OfClasses.{flag-seen, flag-of}
+use Rattle.class_world.proofs.Lemmas.{Some, sym, ap, ◌∙◌, class_at, the_view, Holds, IsClass, opened-one, flag-seen, flag-of}
 use Rattle.class_world.proofs.world.World.class_flag.Goals as goal
 
 pub flags-requires : goal.flags-requires

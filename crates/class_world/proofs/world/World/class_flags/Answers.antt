@@ -1,8 +1,4 @@
-use Rattle.std.proofs.Common.{◌∙◌}
-use Rattle.class_world.specs.contracts.world.World.{the_view}
-use Rattle.class_world.specs.Sound.{IsClass}
-use Rattle.class_world.proofs.Claims.{opened-one}
-use Rattle.class_world.proofs.OneBase.{class-there, flags-seen}
+use Rattle.class_world.proofs.Lemmas.{◌∙◌, the_view, IsClass, opened-one, class-there, flags-seen}
 use Rattle.class_world.proofs.world.World.class_flags.Goals as goal
 
 pub flags-requires : goal.flags-requires

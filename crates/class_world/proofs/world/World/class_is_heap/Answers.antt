@@ -1,8 +1,4 @@
-use Rattle.std.proofs.Common.{sym, ◌∙◌}
-use Rattle.class_world.specs.contracts.world.World.{the_view}
-use Rattle.class_world.specs.Sound.{Holds, IsClass}
-use Rattle.class_world.proofs.Claims.{opened-one}
-use Rattle.class_world.proofs.OfClasses.{heap-seen}
+use Rattle.class_world.proofs.Lemmas.{sym, ◌∙◌, the_view, Holds, IsClass, opened-one, heap-seen}
 use Rattle.class_world.proofs.world.World.class_is_heap.Goals as goal
 
 pub is_heap-requires : goal.is_heap-requires

@@ -1,8 +1,5 @@
-use Rattle.std.proofs.Common.{◌≡◌, List, sym, ap, ◌∙◌, subst}
-use Rattle.class_log.specs.Change.{Change}
-use Rattle.class_log.specs.Logged.{IsLogged}
-use Rattle.class_world.specs.Held.{Held}
-use Rattle.class_world.specs.contracts.world.World.{the_view}
+use Rattle.class_world.proofs.Lemmas.{List, sym, ap, ◌∙◌, subst, Change, IsLogged, Held, the_view}
+use Rattle.std.proofs.Common.{◌≡◌}
 use Rattle.class_world.proofs.world.World.class_log.Goals as goal
 
 law : (w now : Held) (log : List Change) → w ≡ now → log ≡ w.log → IsLogged w.log w.classes → IsLogged log now.classes

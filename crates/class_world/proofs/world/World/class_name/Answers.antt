@@ -1,15 +1,5 @@
-use Rattle.std.proofs.Common.{◌≡◌, ℕ, Some, refl, ◌∙◌, subst}
-use Rattle.std.specs.Prelude.{option_map}
-use Rattle.py_node.specs.declared.refs.PyStrInterned.{PyStrInterned}
-use Rattle.py_node.specs.Tree.{Text}
-use Rattle.class_model.specs.Class.{class_at}
-use Rattle.class_model.specs.Name.{short_name}
-use Rattle.class_model.proofs.Renamed.{at-renamed}
-use Rattle.class_world.specs.Held.{Held}
-use Rattle.class_world.specs.Reading.{Reading, spelled, plain}
-use Rattle.class_world.specs.contracts.world.World.{the_view}
-use Rattle.class_world.specs.Sound.{Holds, IsClass}
-use Rattle.class_world.proofs.Claims.{opened-one}
+use Rattle.class_world.proofs.Lemmas.{ℕ, Some, refl, ◌∙◌, subst, option_map, PyStrInterned, Text, class_at, short_name, at-renamed, Held, Reading, spelled, plain, the_view, Holds, IsClass, opened-one}
+use Rattle.std.proofs.Common.{◌≡◌}
 use Rattle.class_world.proofs.world.World.class_name.Goals as goal
 
 -- the name of a class as a reading has it

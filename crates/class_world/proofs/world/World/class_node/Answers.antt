@@ -1,7 +1,4 @@
-use Rattle.class_world.specs.contracts.world.World.{the_view}
-use Rattle.class_world.specs.Sound.{IsClass}
-use Rattle.class_world.proofs.Claims.{opened-one}
-use Rattle.class_world.proofs.OfClasses.{node-there}
+use Rattle.class_world.proofs.Lemmas.{the_view, IsClass, opened-one, node-there}
 use Rattle.class_world.proofs.world.World.class_node.Goals as goal
 
 pub returns-clause-node : goal.returns-clause-node

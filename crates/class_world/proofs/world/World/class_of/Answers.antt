@@ -1,9 +1,4 @@
-use Rattle.std.proofs.Common.{ap}
-use Rattle.std.specs.Prelude.{option_map}
-use Rattle.class_world.specs.contracts.world.World.{the_view}
-use Rattle.class_world.specs.Sound.{Holds, IsNode}
-use Rattle.class_world.proofs.Claims.{got, opened-one}
-use Rattle.class_world.proofs.Look.{node-read, node-holds}
+use Rattle.class_world.proofs.Lemmas.{ap, option_map, the_view, Holds, IsNode, got, opened-one, node-read, node-holds}
 use Rattle.class_world.proofs.world.World.class_of.Goals as goal
 
 pub index-requires : goal.index-requires

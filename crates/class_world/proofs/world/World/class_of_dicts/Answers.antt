@@ -1,5 +1,4 @@
-use Rattle.class_world.specs.contracts.world.World.{the_view}
-use Rattle.class_world.proofs.Built.{dict-none}
+use Rattle.class_world.proofs.Lemmas.{the_view, dict-none}
 use Rattle.class_world.proofs.world.World.class_of_dicts.Goals as goal
 
 pub returns-clause-none : goal.returns-clause-none

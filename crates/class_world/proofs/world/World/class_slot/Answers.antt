@@ -1,8 +1,4 @@
-use Rattle.std.proofs.Common.{sym, ◌∙◌}
-use Rattle.class_world.specs.contracts.world.World.{the_view}
-use Rattle.class_world.specs.Sound.{Holds, IsClass}
-use Rattle.class_world.proofs.Claims.{opened-one}
-use Rattle.class_world.proofs.Look.{slot-seen}
+use Rattle.class_world.proofs.Lemmas.{sym, ◌∙◌, the_view, Holds, IsClass, opened-one, slot-seen}
 use Rattle.class_world.proofs.world.World.class_slot.Goals as goal
 
 pub slot-requires : goal.slot-requires

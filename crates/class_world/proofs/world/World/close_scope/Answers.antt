@@ -1,11 +1,4 @@
-use Rattle.py_node.specs.Attributes.{AreNamesDistinct}
-use Rattle.class_world.specs.declared.scope.Scope.{Scope}
-use Rattle.class_world.specs.contracts.world.World.{the_view}
-use Rattle.class_world.specs.Sound.{of_scope}
-use Rattle.class_world.proofs.Claims.{each-take}
-use Rattle.class_world.proofs.Growth.{lasts-seen}
-use Rattle.class_world.proofs.Apart.{all-take}
-use Rattle.class_world.proofs.Bound.{other-sound, other-lasts}
+use Rattle.class_world.proofs.Lemmas.{AreNamesDistinct, Scope, the_view, of_scope, each-take, lasts-seen, all-take, other-sound, other-lasts}
 use Rattle.class_world.proofs.world.World.close_scope.Goals as goal
 
 pub invariant_of-self : goal.invariant_of-self

@@ -1,14 +1,6 @@
-use Rattle.std.proofs.Common.{◌≡◌, ◌++◌, ◌∷◌, [], true, Ok, sym, subst, ◌∙◌, refl}
-use Rattle.class_log.specs.Change.{DelOwn}
-use Rattle.class_log.proofs.Logged.{keeps-taken}
-use Rattle.class_world.specs.Held.{Held}
-use Rattle.class_world.specs.contracts.world.World.{the_view}
-use Rattle.class_world.specs.Sound.{Holds, IsClass}
-use Rattle.class_world.proofs.Claims.{opened-one}
-use Rattle.class_world.proofs.Growth.{grows-seen}
-use Rattle.class_world.proofs.ClassChanges.{classes-grow, unchanged}
-use Rattle.class_world.proofs.ChangedClass.{without, change-like, change-sound, without-holds, without-read, own-told}
-use Rattle.class_world.proofs.OfClasses.{refused-seen}
+use Rattle.class_world.proofs.Lemmas.{[], true, Ok, sym, subst, ◌∙◌, refl, DelOwn, keeps-taken, Held, the_view, Holds, IsClass, opened-one, grows-seen, classes-grow, unchanged, without, change-like, without-holds, without-read, own-told, refused-seen}
+use Rattle.std.proofs.Common.{◌≡◌, ◌++◌, ◌∷◌}
+use Rattle.class_world.proofs.ChangedClass.{change-sound}
 use Rattle.class_world.proofs.world.World.del_attr_direct.Goals as goal
 
 pub del_attr_direct-requires : goal.del_attr_direct-requires

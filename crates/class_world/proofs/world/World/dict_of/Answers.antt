@@ -1,11 +1,5 @@
-use Rattle.std.proofs.Common.{Option, Some, None, IfSome, ap}
-use Rattle.std.specs.Prelude.{option_and_then}
-use Rattle.py_node.specs.declared.refs.PyObjectRef.{PyObjectRef}
-use Rattle.py_node.specs.declared.built_in.BuiltIn.TheVariants.{Dict}
-use Rattle.class_world.specs.contracts.world.World.{the_view}
-use Rattle.class_world.specs.Sound.{Holds, AllHold, IsNode, Holding, of_option, of_dict_ref, of_payload}
-use Rattle.class_world.proofs.Claims.{got, opened-one, all-first}
-use Rattle.class_world.proofs.Look.{node-read, node-holds}
+use Rattle.class_world.proofs.Lemmas.{Option, Some, None, ap, option_and_then, PyObjectRef, Dict, the_view, Holds, AllHold, IsNode, Holding, of_option, of_dict_ref, of_payload, got, opened-one, all-first, node-read, node-holds}
+use Rattle.std.proofs.Common.{IfSome}
 use Rattle.class_world.proofs.world.World.dict_of.Goals as goal
 
 pub index-requires : goal.index-requires

@@ -1,11 +1,4 @@
-use Rattle.std.proofs.Common.{refl, sym, ap, subst}
-use Rattle.class_world.specs.Added.{AreEmpty}
-use Rattle.class_world.specs.Held.{Held}
-use Rattle.class_world.specs.Sound.{Holds, IsClass}
-use Rattle.class_world.specs.contracts.world.World.{the_view}
-use Rattle.class_world.proofs.Claims.{opened-one}
-use Rattle.class_world.proofs.DictChanges.{none-hold}
-use Rattle.class_world.proofs.SamePlaces.{empty-hold}
+use Rattle.class_world.proofs.Lemmas.{refl, sym, ap, subst, AreEmpty, Held, Holds, IsClass, the_view, opened-one, none-hold, empty-hold}
 use Rattle.class_world.proofs.world.World.empty_dict.Goals as goal
 
 pub empty_places-requires : goal.empty_places-requires

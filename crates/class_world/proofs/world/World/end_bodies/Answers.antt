@@ -1,16 +1,5 @@
-use Rattle.py_node.specs.Attributes.{AreNamesDistinct}
-use Rattle.std.proofs.Common.{◌≡◌, ℕ, List, map, take, ap, sym, ◌∙◌}
-use Rattle.std.proofs.lemmas.List.{take-map}
-use Rattle.plain_machine.specs.World.{at_depth}
-use Rattle.class_world.specs.Held.{Held}
-use Rattle.class_world.specs.declared.scope.Scope.{Scope}
-use Rattle.class_world.specs.contracts.world.World.{the_view}
-use Rattle.class_world.specs.Reading.{Reading, plain, scope_of}
-use Rattle.class_world.specs.Sound.{of_scope}
-use Rattle.class_world.proofs.Claims.{each-take}
-use Rattle.class_world.proofs.Growth.{lasts-seen}
-use Rattle.class_world.proofs.Apart.{all-take}
-use Rattle.class_world.proofs.Bound.{other-sound, other-lasts}
+use Rattle.class_world.proofs.Lemmas.{AreNamesDistinct, ℕ, List, map, take, ap, sym, ◌∙◌, take-map, at_depth, Held, Scope, the_view, Reading, plain, scope_of, of_scope, each-take, lasts-seen, all-take, other-sound, other-lasts}
+use Rattle.std.proofs.Common.{◌≡◌}
 use Rattle.class_world.proofs.world.World.end_bodies.Goals as goal
 
 pub invariant_of-self : goal.invariant_of-self

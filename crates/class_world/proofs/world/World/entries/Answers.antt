@@ -1,10 +1,4 @@
-use Rattle.std.proofs.Common.{sym, ap, ◌∙◌}
-use Rattle.py_node.specs.Dicts.{PlainDict}
-use Rattle.class_world.specs.contracts.world.World.{the_view}
-use Rattle.class_world.specs.Keyed.{dict_in}
-use Rattle.class_world.specs.Sound.{Holds, IsNode}
-use Rattle.class_world.proofs.Claims.{got, opened-one}
-use Rattle.class_world.proofs.DictChanges.{dict-seen, held-hold, no-dict}
+use Rattle.class_world.proofs.Lemmas.{sym, ap, ◌∙◌, PlainDict, the_view, dict_in, Holds, IsNode, got, opened-one, dict-seen, held-hold, no-dict}
 use Rattle.class_world.proofs.world.World.entries.Goals as goal
 
 pub index-requires : goal.index-requires

@@ -1,11 +1,4 @@
-use Rattle.std.proofs.Common.{refl, ap, ◌∙◌}
-use Rattle.py_node.specs.Dicts.{PlainDict}
-use Rattle.class_world.specs.Keyed.{of_pairs}
-use Rattle.class_world.specs.Reading.{plain}
-use Rattle.class_world.proofs.Claims.{all-grow}
-use Rattle.class_world.proofs.DictChanges.{none-hold}
-use Rattle.class_world.proofs.Growth.{grows-itself, grows-on}
-use Rattle.class_world.proofs.KeyEntries.{pair-holds, one-more, all-pairs}
+use Rattle.class_world.proofs.Lemmas.{refl, ap, ◌∙◌, PlainDict, of_pairs, plain, all-grow, none-hold, grows-itself, grows-on, pair-holds, one-more, all-pairs}
 use Rattle.class_world.proofs.world.World.entries_from.Goals as goal
 
 pub loop-pair-init : goal.loop-pair-init

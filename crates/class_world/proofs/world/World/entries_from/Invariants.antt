@@ -1,8 +1,5 @@
-use Rattle.std.proofs.Common.{◌≡◌, take}
-use Rattle.plain_machine.specs.Dicts.{entries_from}
-use Rattle.class_world.specs.Keyed.{of_keyed}
-use Rattle.class_world.specs.Reading.{Reading, Reads, plain}
-use Rattle.class_world.specs.Sound.{AllHold, Grows}
+use Rattle.class_world.proofs.Below.{take, entries_from, of_keyed, Reading, Reads, plain, AllHold, Grows}
+use Rattle.std.proofs.Common.{◌≡◌}
 use Rattle.class_world.proofs.world.World.entries_from.Given as goal
 
 abbrev pub invariant-loop-pair : goal.invariant-loop-pair

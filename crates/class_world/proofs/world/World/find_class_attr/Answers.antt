@@ -1,6 +1,4 @@
-use Rattle.class_world.specs.contracts.world.World.{the_view}
-use Rattle.class_world.specs.Sound.{Holds, IsClass}
-use Rattle.class_world.proofs.Claims.{opened-one}
+use Rattle.class_world.proofs.Lemmas.{the_view, Holds, IsClass, opened-one}
 use Rattle.class_world.proofs.world.World.find_class_attr.Goals as goal
 
 pub find_attr-requires : goal.find_attr-requires

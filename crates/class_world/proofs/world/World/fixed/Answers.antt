@@ -1,5 +1,4 @@
-use Rattle.class_world.specs.contracts.world.World.{the_view}
-use Rattle.class_world.proofs.Built.{fixed-holds}
+use Rattle.class_world.proofs.Lemmas.{the_view, fixed-holds}
 use Rattle.class_world.proofs.world.World.fixed.Goals as goal
 
 pub returns-clause-node : goal.returns-clause-node

@@ -1,6 +1,4 @@
-use Rattle.class_world.specs.contracts.world.World.{the_view}
-use Rattle.class_world.specs.Sound.{Holds, IsExpression, of_form}
-use Rattle.class_world.proofs.Claims.{got, opened-one, each-get, seen}
+use Rattle.class_world.proofs.Lemmas.{the_view, Holds, IsExpression, of_form, got, opened-one, each-get, seen}
 use Rattle.class_world.proofs.world.World.form.Goals as goal
 
 pub index-requires : goal.index-requires

@@ -1,7 +1,4 @@
-use Rattle.class_world.specs.contracts.world.World.{the_view}
-use Rattle.class_world.specs.Sound.{Holds, IsClass}
-use Rattle.class_world.proofs.Claims.{opened-one}
-use Rattle.class_world.proofs.Attributes.{inherited-seen, inherited-hold}
+use Rattle.class_world.proofs.Lemmas.{the_view, Holds, IsClass, opened-one, inherited-seen, inherited-hold}
 use Rattle.class_world.proofs.world.World.get_attributes.Goals as goal
 
 pub get_attributes-requires : goal.get_attributes-requires

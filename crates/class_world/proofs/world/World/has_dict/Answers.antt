@@ -1,11 +1,7 @@
-use Rattle.std.proofs.Common.{◌≡◌, sym, ◌∙◌, subst}
-use Rattle.class_model.specs.Dict.{has_dict}
-use Rattle.class_world.specs.Held.{Held}
-use Rattle.class_world.specs.contracts.world.World.{the_view}
-use Rattle.class_world.specs.Sound.{Holds, IsClass}
-use Rattle.class_world.proofs.Claims.{opened-one}
+use Rattle.class_world.proofs.Lemmas.{sym, ◌∙◌, subst, has_dict, Held, the_view, Holds, IsClass, opened-one, gives-seen}
+use Rattle.std.proofs.Common.{◌≡◌}
 use Rattle.class_world.proofs.Look.{dict-there}
-use Rattle.class_world.proofs.Reclassed.{dict-seen, gives-seen}
+use Rattle.class_world.proofs.Reclassed.{dict-seen}
 use Rattle.class_world.proofs.world.World.has_dict.Goals as goal
 
 pub has_dict-requires : goal.has_dict-requires

@@ -1,12 +1,5 @@
-use Rattle.std.proofs.Common.{[], ◌∷◌, ◌++◌, ap, sym, ◌∙◌, subst}
-use Rattle.std.proofs.lemmas.Option.{slice_get_within}
-use Rattle.py_node.specs.Texts.{Stands}
-use Rattle.class_world.specs.Held.{Held}
-use Rattle.class_world.specs.Names.{AddsName}
-use Rattle.class_world.specs.contracts.world.World.{the_view}
-use Rattle.class_world.specs.Sound.{Holds}
-use Rattle.class_world.proofs.Growth.{names-grow, grows-seen}
-use Rattle.class_world.proofs.Changes.{names-sound}
+use Rattle.class_world.proofs.Lemmas.{[], ap, sym, ◌∙◌, subst, slice_get_within, Stands, Held, AddsName, the_view, Holds, names-grow, grows-seen, names-sound}
+use Rattle.std.proofs.Common.{◌∷◌, ◌++◌}
 use Rattle.class_world.proofs.world.World.intern.Goals as goal
 
 pub invariant_of-self-2 : goal.invariant_of-self-2

@@ -1,13 +1,5 @@
-use Rattle.std.proofs.Common.{◌∷◌, [], refl, sym, ap, ◌∙◌, arith}
-use Rattle.std.specs.Prelude.{is_some}
-use Rattle.class_world.specs.contracts.world.World.{the_view}
-use Rattle.class_world.specs.Held.{Held}
-use Rattle.class_world.specs.Sound.{Holds, IsNode, KeysRead, NamesKey, key_in}
-use Rattle.class_world.proofs.Changes.{names-sound}
-use Rattle.class_world.proofs.Claims.{got, opened-one}
-use Rattle.class_world.proofs.Growth.{grows-seen, names-grow}
-use Rattle.class_world.proofs.KeyEntries.{key-held}
-use Rattle.class_world.proofs.Stored.{ok-map}
+use Rattle.class_world.proofs.Lemmas.{[], refl, sym, ap, ◌∙◌, arith, is_some, the_view, Held, Holds, IsNode, KeysRead, NamesKey, key_in, names-sound, got, opened-one, grows-seen, names-grow, key-held, ok-map}
+use Rattle.std.proofs.Common.{◌∷◌}
 use Rattle.class_world.proofs.world.World.intern_key.Goals as goal
 
 pub index-requires : goal.index-requires

@@ -1,6 +1,4 @@
-use Rattle.std.proofs.Common.{sym, ◌∙◌}
-use Rattle.class_world.specs.contracts.world.World.{the_view}
-use Rattle.class_world.proofs.OfClasses.{there-seen}
+use Rattle.class_world.proofs.Lemmas.{sym, ◌∙◌, the_view, there-seen}
 use Rattle.class_world.proofs.world.World.is_class.Goals as goal
 
 pub returns-clause-is : goal.returns-clause-is

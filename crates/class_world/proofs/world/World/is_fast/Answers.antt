@@ -1,8 +1,7 @@
-use Rattle.std.proofs.Common.{◌≡◌, ◌^◌, true, false, Some, ap, sym, ◌∙◌}
+use Rattle.class_world.proofs.Lemmas.{true, false, Some, ap, sym, ◌∙◌, class_has_flag, or_false, is_for_objects, datum_at, plain}
+use Rattle.std.proofs.Common.{◌≡◌, ◌^◌}
 use Rattle.std.specs.Prelude.{◌&&◌}
-use Rattle.plain_machine.specs.Objects.{class_has_flag, or_false, is_for_objects}
-use Rattle.plain_machine.specs.World.{class_at, datum_at}
-use Rattle.class_world.specs.Reading.{plain}
+use Rattle.plain_machine.specs.World.{class_at}
 use Rattle.class_world.proofs.world.World.is_fast.Goals as goal
 
 pub returns-then-class_flag : goal.returns-then-class_flag

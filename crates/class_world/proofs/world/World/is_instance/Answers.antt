@@ -1,6 +1,4 @@
-use Rattle.std.proofs.Common.{ap, ◌∙◌}
-use Rattle.plain_machine.specs.Objects.{derives}
-use Rattle.class_world.specs.Reading.{plain}
+use Rattle.class_world.proofs.Lemmas.{ap, ◌∙◌, derives, plain}
 use Rattle.class_world.proofs.world.World.is_instance.Goals as goal
 
 pub returns : goal.returns

@@ -1,22 +1,7 @@
-use Rattle.std.proofs.Common.{◌≡◌, ℕ, Option, Some, None, refl, sym, ap, ◌∙◌, subst}
-use Rattle.std.specs.Prelude.{slice_get, option_map}
-use Rattle.py_node.specs.declared.refs.PyObjectRef.{PyObjectRef}
-use Rattle.py_node.specs.declared.refs.PyStrInterned.{PyStrInterned}
+use Rattle.class_world.proofs.Lemmas.{ℕ, Option, Some, None, refl, sym, ap, ◌∙◌, subst, slice_get, option_map, PyObjectRef, PyStrInterned, place_of, Text, Class, at-renamed, the_none_type, Node, none, Held, Reading, spelled, plain, Holds, class_ref_at, flags_at, the_view, node-read, flags-seen}
+use Rattle.std.proofs.Common.{◌≡◌}
 use Rattle.py_node.specs.declared.payload.Node.{Node as StoredNode}
-use Rattle.py_node.specs.BuiltIns.{place_of}
-use Rattle.py_node.specs.Tree.{Text}
-use Rattle.class_model.specs.Class.{Class}
-use Rattle.class_model.proofs.Renamed.{at-renamed}
-use Rattle.plain_machine.specs.Known.{the_none_type}
-use Rattle.plain_machine.specs.Plain.{Node}
-use Rattle.plain_machine.specs.Row.{none}
 use Rattle.plain_machine.specs.World.{class_at}
-use Rattle.class_world.specs.Held.{Held}
-use Rattle.class_world.specs.Reading.{Reading, spelled, plain}
-use Rattle.class_world.specs.Sound.{Holds, class_ref_at, flags_at}
-use Rattle.class_world.specs.contracts.world.World.{the_view}
-use Rattle.class_world.proofs.Look.{node-read}
-use Rattle.class_world.proofs.OneBase.{flags-seen}
 use Rattle.class_world.proofs.world.World.keeps_built_ins.Goals as goal
 
 flags-read : (w now : Held) → w ≡ now → (t : Reading) (c n : ℕ) → flags_at w.classes c ≡ Some n → flags_at (plain t now).classes c ≡ Some n

@@ -1,7 +1,4 @@
-use Rattle.std.proofs.Common.{ap, sym, ◌∙◌}
-use Rattle.py_node.specs.declared.refs.PyStrInterned.{PyStrInterned}
-use Rattle.class_world.specs.Sound.{Holds}
-use Rattle.class_world.proofs.Look.{known-read, known-within}
+use Rattle.class_world.proofs.Lemmas.{ap, sym, ◌∙◌, PyStrInterned, Holds, known-read, known-within}
 use Rattle.class_world.proofs.world.World.known.Goals as goal
 
 pub returns-clause-spelled : goal.returns-clause-spelled

@@ -1,11 +1,4 @@
-use Rattle.std.proofs.Common.{sym, subst}
-use Rattle.std.specs.Prelude.{IfNone, IfSome}
-use Rattle.py_node.specs.declared.dict.PyDictKey.{PyDictKey}
-use Rattle.class_world.specs.contracts.world.World.{the_view}
-use Rattle.class_world.specs.Held.{Held}
-use Rattle.class_world.specs.Sound.{Holds, IsNode, NamesKey, key_in}
-use Rattle.class_world.proofs.Claims.{got, opened-one}
-use Rattle.class_world.proofs.KeyEntries.{key-held}
+use Rattle.class_world.proofs.Lemmas.{sym, subst, IfNone, IfSome, PyDictKey, the_view, Held, Holds, IsNode, NamesKey, key_in, got, opened-one, key-held}
 use Rattle.class_world.proofs.world.World.known_key.Goals as goal
 
 pub index-requires : goal.index-requires

@@ -1,10 +1,4 @@
-use Rattle.std.proofs.Common.{sym, ◌∙◌}
-use Rattle.class_table.specs.Keys.{numbers}
-use Rattle.class_world.specs.contracts.world.World.{the_view}
-use Rattle.class_world.specs.Sound.{of_class_ref, of_each}
-use Rattle.class_world.proofs.Claims.{opened}
-use Rattle.class_world.proofs.ClassChanges.{bases-there}
-use Rattle.class_world.proofs.OfClasses.{layout-seen}
+use Rattle.class_world.proofs.Lemmas.{sym, ◌∙◌, numbers, the_view, of_class_ref, of_each, opened, bases-there, layout-seen}
 use Rattle.class_world.proofs.world.World.layout_refusal.Goals as goal
 
 pub best_base-requires : goal.best_base-requires

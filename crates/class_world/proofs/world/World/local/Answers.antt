@@ -1,7 +1,4 @@
-use Rattle.std.proofs.Common.{sym, ap, ◌∙◌}
-use Rattle.class_world.specs.contracts.world.World.{the_view}
-use Rattle.class_world.specs.Bound.{last_value}
-use Rattle.class_world.proofs.Bodies.{local-read, local-there}
+use Rattle.class_world.proofs.Lemmas.{sym, ap, ◌∙◌, the_view, last_value, local-read, local-there}
 use Rattle.class_world.proofs.world.World.local.Goals as goal
 
 pub returns-clause-found : goal.returns-clause-found

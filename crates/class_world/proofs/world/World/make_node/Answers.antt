@@ -1,13 +1,5 @@
-use Rattle.std.proofs.Common.{◌≡◌, IfSome, sym, ap, subst}
-use Rattle.std.specs.Prelude.{is_some}
-use Rattle.class_model.specs.Dict.{has_dict}
-use Rattle.class_world.specs.Added.{IsEmptyDict}
-use Rattle.class_world.specs.Held.{Held}
-use Rattle.class_world.specs.contracts.world.World.{the_view}
-use Rattle.class_world.specs.Sound.{Holds, IsClass, IsOf, home_of, of_node, of_option, of_payload}
-use Rattle.class_world.proofs.Claims.{opened, opened-one}
-use Rattle.class_world.proofs.Growth.{grows-seen}
-use Rattle.class_world.proofs.Added.{added-sound, added-grows, added-read, added-number, added-there, added-holding, added-last}
+use Rattle.class_world.proofs.Lemmas.{sym, ap, subst, is_some, has_dict, IsEmptyDict, Held, the_view, Holds, IsClass, IsOf, home_of, of_node, of_option, of_payload, opened, opened-one, grows-seen, added-sound, added-grows, added-read, added-number, added-there, added-holding, added-last}
+use Rattle.std.proofs.Common.{◌≡◌, IfSome}
 use Rattle.class_world.proofs.world.World.make_node.Goals as goal
 
 pub invariant_of-self : goal.invariant_of-self

@@ -1,11 +1,5 @@
-use Rattle.std.proofs.Common.{◌≡◌, ℕ, Some, sym, ◌∙◌, subst}
-use Rattle.std.specs.Prelude.{IfSome}
-use Rattle.class_world.specs.contracts.world.World.{the_view}
-use Rattle.class_world.specs.Held.{Held}
-use Rattle.class_model.specs.Layout.{place_at}
-use Rattle.class_world.specs.Sound.{Holds, IsNode, of_node}
-use Rattle.class_world.proofs.Claims.{each-get, got, opened-one}
-use Rattle.class_world.proofs.NodeMembers.{member-read, member-none, member-there}
+use Rattle.class_world.proofs.Lemmas.{ℕ, Some, sym, ◌∙◌, subst, IfSome, the_view, Held, place_at, Holds, IsNode, of_node, each-get, got, opened-one, member-read, member-none, member-there}
+use Rattle.std.proofs.Common.{◌≡◌}
 use Rattle.class_world.proofs.world.World.member.Goals as goal
 
 pub index-node-requires : goal.index-node-requires

@@ -1,9 +1,4 @@
-use Rattle.std.proofs.Common.{◌∙◌}
-use Rattle.class_world.specs.contracts.world.World.{the_view}
-use Rattle.class_world.specs.Sound.{IsClass}
-use Rattle.class_world.proofs.Claims.{opened-one}
-use Rattle.class_world.proofs.Counts.{count-seen, offset-within}
-use Rattle.class_world.proofs.OneBase.{class-there}
+use Rattle.class_world.proofs.Lemmas.{◌∙◌, the_view, IsClass, opened-one, count-seen, offset-within, class-there}
 use Rattle.class_world.proofs.world.World.member_count.Goals as goal
 
 pub member_count-requires : goal.member_count-requires

@@ -1,12 +1,5 @@
-use Rattle.std.proofs.Common.{◌≡◌, Some, sym, ap, ◌∙◌, subst}
-use Rattle.class_model.specs.Layout.{place_at}
-use Rattle.plain_machine.specs.Members.{value_at_place}
-use Rattle.class_world.specs.contracts.world.World.{the_view}
-use Rattle.class_world.specs.Held.{Held}
-use Rattle.class_world.specs.Reading.{plain}
-use Rattle.class_world.specs.Sound.{Holds, IsClass}
-use Rattle.class_world.proofs.Claims.{opened-one}
-use Rattle.class_world.proofs.NodeMembers.{place-seen, place-told}
+use Rattle.class_world.proofs.Lemmas.{Some, sym, ap, ◌∙◌, subst, place_at, value_at_place, the_view, Held, plain, Holds, IsClass, opened-one, place-seen, place-told}
+use Rattle.std.proofs.Common.{◌≡◌}
 use Rattle.class_world.proofs.world.World.member_value.Goals as goal
 
 pub place_at-requires : goal.place_at-requires

@@ -1,10 +1,4 @@
-use Rattle.std.proofs.Common.{map, sym, ap, subst, ◌∙◌}
-use Rattle.class_model.specs.Dict.{slot_members}
-use Rattle.class_table.specs.Keys.{table_keys}
-use Rattle.class_world.specs.contracts.world.World.{the_view}
-use Rattle.class_world.specs.Reading.{spelled}
-use Rattle.class_world.specs.Sound.{AreNames, Holds}
-use Rattle.class_world.proofs.HeapClass.{members-named, members-seen}
+use Rattle.class_world.proofs.Lemmas.{map, sym, ap, subst, ◌∙◌, slot_members, table_keys, the_view, spelled, AreNames, Holds, members-named, members-seen}
 use Rattle.class_world.proofs.world.World.members_of_slots.Goals as goal
 
 pub returns-clause-members : goal.returns-clause-members

@@ -1,10 +1,5 @@
-use Rattle.std.proofs.Common.{◌≡◌, ap, subst}
-use Rattle.std.specs.Prelude.{option_map}
-use Rattle.class_world.specs.contracts.world.World.{the_view}
-use Rattle.py_node.specs.declared.built_in.BuiltIn.TheVariants.{TypeType}
-use Rattle.class_world.specs.Sound.{Holds, IsNode, IsOf, Holding, home_of}
-use Rattle.class_world.proofs.Claims.{got, opened-one}
-use Rattle.class_world.proofs.Look.{node-read, node-holds}
+use Rattle.class_world.proofs.Lemmas.{ap, subst, option_map, the_view, TypeType, Holds, IsNode, IsOf, Holding, home_of, got, opened-one, node-read, node-holds}
+use Rattle.std.proofs.Common.{◌≡◌}
 use Rattle.class_world.proofs.world.World.metaclass.Goals as goal
 
 pub index-requires : goal.index-requires

@@ -1,13 +1,5 @@
-use Rattle.std.proofs.Common.{ap, ◌≡◌, true, refl, sym, subst, ◌∙◌}
-use Rattle.std.specs.Prelude.{nat_lt, slice_get, option_map, option_and_then}
-use Rattle.py_node.specs.BuiltIns.{all_built_ins}
-use Rattle.plain_machine.specs.Sound.{holds_as}
-use Rattle.class_model.specs.Class.{is_class, lin}
-use Rattle.class_model.specs.Layout.{built_ins}
-use Rattle.class_model.specs.Slot.{first_with}
-use Rattle.class_world.specs.Sound.{Holds}
-use Rattle.class_world.proofs.Built.{place-at}
-use Rattle.class_world.proofs.OfClasses.{line-seen}
+use Rattle.class_world.proofs.Lemmas.{ap, true, refl, sym, subst, ◌∙◌, nat_lt, slice_get, option_map, option_and_then, all_built_ins, holds_as, is_class, lin, built_ins, first_with, Holds, place-at, line-seen}
+use Rattle.std.proofs.Common.{◌≡◌}
 use Rattle.class_world.proofs.world.World.nearest_built_in.Goals as goal
 
 pub mro-requires : goal.mro-requires

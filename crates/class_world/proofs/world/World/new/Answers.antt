@@ -1,4 +1,4 @@
-use Rattle.class_world.proofs.Opening.{opening-sound, opening-plain}
+use Rattle.class_world.proofs.Lemmas.{opening-sound, opening-plain}
 use Rattle.class_world.proofs.world.World.new.Goals as goal
 
 pub invariant_of-result : goal.invariant_of-result

@@ -1,10 +1,5 @@
-use Rattle.std.proofs.Common.{◌≡◌, List, Some, refl, sym, ap, subst, ◌∙◌}
-use Rattle.std.specs.Option.{option_or}
-use Rattle.py_node.specs.declared.refs.PyTypeRef.{PyTypeRef}
-use Rattle.class_table.specs.Keys.{numbers}
-use Rattle.class_table.specs.Refused.{refusal, WithMemory, refused_layout, refused_bases}
-use Rattle.class_world.specs.Reading.{bindings, plain}
-use Rattle.class_world.proofs.Refusals.{layout-first, layout-told, layout-none, name-next, no-name}
+use Rattle.class_world.proofs.Lemmas.{List, Some, refl, sym, ap, subst, ◌∙◌, option_or, PyTypeRef, numbers, refusal, WithMemory, refused_layout, refused_bases, bindings, plain, layout-first, layout-told, layout-none, name-next, no-name}
+use Rattle.std.proofs.Common.{◌≡◌}
 use Rattle.class_world.proofs.world.World.new_heap_slots.Goals as goal
 
 pub returns-in-Some-clause-early : goal.returns-in-Some-clause-early

@@ -1,5 +1,4 @@
-use Rattle.std.proofs.Common.{refl, sym, ◌∙◌}
-use Rattle.class_world.proofs.OneBase.{single-seen, script-given}
+use Rattle.class_world.proofs.Lemmas.{refl, sym, ◌∙◌, single-seen, script-given}
 use Rattle.class_world.proofs.world.World.new_simple_heap.Goals as goal
 
 pub returns-clause-refused : goal.returns-clause-refused

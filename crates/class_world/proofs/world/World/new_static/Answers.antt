@@ -1,8 +1,5 @@
-use Rattle.std.proofs.Common.{◌≡◌, false, refl, sym, ap, ◌∙◌, subst}
-use Rattle.class_table.specs.OneBase.{says_so}
-use Rattle.class_table.proofs.Dicts.{static-says}
-use Rattle.class_world.specs.Sound.{is_marked_heap}
-use Rattle.class_world.proofs.OneBase.{single-seen, static-unmarked, static-given}
+use Rattle.class_world.proofs.Lemmas.{false, refl, sym, ap, ◌∙◌, subst, says_so, static-says, is_marked_heap, single-seen, static-unmarked, static-given}
+use Rattle.std.proofs.Common.{◌≡◌}
 use Rattle.class_world.proofs.world.World.new_static.Goals as goal
 
 pub add_single-requires-clause-dict : goal.add_single-requires-clause-dict

@@ -1,11 +1,4 @@
-use Rattle.py_node.specs.Attributes.{AreNamesDistinct}
-use Rattle.class_world.specs.declared.scope.Scope.{Scope}
-use Rattle.class_world.specs.contracts.world.World.{the_view}
-use Rattle.class_world.specs.Sound.{IsNode, HasValues, of_binding, of_scope, of_each}
-use Rattle.class_world.proofs.Claims.{opened, opened-one, each-push}
-use Rattle.class_world.proofs.Growth.{lasts-seen}
-use Rattle.class_world.proofs.Apart.{all-end}
-use Rattle.class_world.proofs.Bound.{other-sound, other-lasts}
+use Rattle.class_world.proofs.Lemmas.{AreNamesDistinct, Scope, the_view, IsNode, HasValues, of_binding, of_scope, of_each, opened, opened-one, each-push, lasts-seen, all-end, other-sound, other-lasts}
 use Rattle.class_world.proofs.world.World.open_scope.Goals as goal
 
 pub invariant_of-self-2 : goal.invariant_of-self-2

@@ -1,8 +1,4 @@
-use Rattle.std.proofs.Common.{sym, ◌∙◌}
-use Rattle.class_world.specs.contracts.world.World.{the_view}
-use Rattle.class_world.specs.Sound.{Holds, IsClass}
-use Rattle.class_world.proofs.Claims.{opened-one}
-use Rattle.class_world.proofs.OfClasses.{own-seen, own-there}
+use Rattle.class_world.proofs.Lemmas.{sym, ◌∙◌, the_view, Holds, IsClass, opened-one, own-seen, own-there}
 use Rattle.class_world.proofs.world.World.own_attr.Goals as goal
 
 pub get_direct_attr-requires : goal.get_direct_attr-requires

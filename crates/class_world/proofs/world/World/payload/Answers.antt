@@ -1,10 +1,5 @@
-use Rattle.std.proofs.Common.{◌≡◌, Option, Some, None, IfSome, List, ap, subst}
-use Rattle.std.specs.Prelude.{option_map, option_and_then}
-use Rattle.py_node.specs.declared.refs.PyStrInterned.{PyStrInterned}
-use Rattle.class_world.specs.contracts.world.World.{the_view}
-use Rattle.class_world.specs.Sound.{Holds, IsNode, home_of, home_at, held_params, params_in, of_option, of_dict_ref, of_payload}
-use Rattle.class_world.proofs.Claims.{got, opened-one, all-rest}
-use Rattle.class_world.proofs.Look.{node-read, node-holds}
+use Rattle.class_world.proofs.Lemmas.{Option, Some, None, List, ap, subst, option_map, option_and_then, PyStrInterned, the_view, Holds, IsNode, home_of, home_at, held_params, params_in, of_option, of_dict_ref, of_payload, got, opened-one, all-rest, node-read, node-holds}
+use Rattle.std.proofs.Common.{◌≡◌, IfSome}
 use Rattle.class_world.proofs.world.World.payload.Goals as goal
 
 pub index-requires : goal.index-requires

@@ -1,6 +1,4 @@
-use Rattle.std.proofs.Common.{◌∙◌}
-use Rattle.class_world.specs.Keyed.{held_dict}
-use Rattle.class_world.proofs.KeyEntries.{named-place}
+use Rattle.class_world.proofs.Lemmas.{◌∙◌, held_dict, named-place}
 use Rattle.class_world.proofs.world.World.place_in.Goals as goal
 
 pub returns-clause-first : goal.returns-clause-first

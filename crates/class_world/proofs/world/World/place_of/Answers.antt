@@ -1,11 +1,5 @@
-use Rattle.std.proofs.Common.{◌<◌, length, sym, ap, ◌∙◌, subst}
-use Rattle.std.specs.Prelude.{IfSome, position}
-use Rattle.py_node.specs.Dicts.{PlainDict, is_same_key}
-use Rattle.class_world.specs.contracts.world.World.{the_view}
-use Rattle.class_world.specs.Keyed.{dict_in}
-use Rattle.class_world.specs.Sound.{Holds, IsNode}
-use Rattle.class_world.proofs.Claims.{got, opened-one}
-use Rattle.class_world.proofs.DictChanges.{dict-seen, held-hold, no-dict}
+use Rattle.class_world.proofs.Lemmas.{length, sym, ap, ◌∙◌, subst, IfSome, position, PlainDict, is_same_key, the_view, dict_in, Holds, IsNode, got, opened-one, dict-seen, held-hold, no-dict}
+use Rattle.std.proofs.Common.{◌<◌}
 use Rattle.class_world.proofs.world.World.place_of.Goals as goal
 
 pub index-requires : goal.index-requires

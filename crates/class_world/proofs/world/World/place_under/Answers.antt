@@ -1,7 +1,4 @@
-use Rattle.std.proofs.Common.{sym, ◌∙◌}
-use Rattle.class_world.specs.Keyed.{held_dict}
-use Rattle.class_world.specs.Sound.{Holds}
-use Rattle.class_world.proofs.KeyEntries.{stored-place, unnamed-absent}
+use Rattle.class_world.proofs.Lemmas.{sym, ◌∙◌, held_dict, Holds, stored-place, unnamed-absent}
 use Rattle.class_world.proofs.world.World.place_under.Goals as goal
 
 pub returns-in-None-clause-first : goal.returns-in-None-clause-first

@@ -1,15 +1,6 @@
-use Rattle.std.proofs.Common.{sym, ap, ◌∙◌, ◌∷◌, ◌++◌, [], map, subst}
-use Rattle.std.proofs.lemmas.Result.{on_ok_weaker}
-use Rattle.py_node.specs.Dicts.{PlainDict, dict_pushed}
-use Rattle.plain_machine.specs.Dicts.{with_entries}
-use Rattle.class_world.specs.contracts.world.World.{the_view}
-use Rattle.class_world.specs.Keyed.{dict_in}
-use Rattle.class_world.specs.Reading.{plain}
-use Rattle.class_world.specs.Sound.{Holds, IsNode, KeysDiffer, KeysRead, Sound, Grows}
-use Rattle.class_world.proofs.Claims.{opened-one}
-use Rattle.class_world.proofs.Growth.{grows-seen}
-use Rattle.class_world.proofs.DictChanges.{dict-there, changed, either-other, pushed-hold, other-grows, other-sound, other-read}
-use Rattle.class_world.proofs.KeyEntries.{stored-absent}
+use Rattle.class_world.proofs.Lemmas.{sym, ap, ◌∙◌, [], map, subst, on_ok_weaker, PlainDict, dict_pushed, with_entries, the_view, dict_in, plain, Holds, IsNode, KeysDiffer, KeysRead, Sound, Grows, opened-one, grows-seen, dict-there, changed, either-other, pushed-hold, other-grows, other-read, stored-absent}
+use Rattle.std.proofs.Common.{◌∷◌, ◌++◌}
+use Rattle.class_world.proofs.DictChanges.{other-sound}
 use Rattle.class_world.proofs.world.World.push_entry.Goals as goal
 
 pub index_mut-requires : goal.index_mut-requires

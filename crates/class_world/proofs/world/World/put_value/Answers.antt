@@ -1,13 +1,5 @@
-use Rattle.std.proofs.Common.{sym, ap, ◌∙◌}
-use Rattle.py_node.specs.Dicts.{PlainDict, dict_put, put_at}
-use Rattle.plain_machine.specs.Dicts.{with_entries}
-use Rattle.class_world.specs.contracts.world.World.{the_view}
-use Rattle.class_world.specs.Keyed.{dict_in}
-use Rattle.class_world.specs.Reading.{plain}
-use Rattle.class_world.specs.Sound.{IsNode}
-use Rattle.class_world.proofs.Claims.{opened-one}
-use Rattle.class_world.proofs.Growth.{grows-seen}
-use Rattle.class_world.proofs.DictChanges.{dict-there, other-grows, other-sound, other-read, put-hold}
+use Rattle.class_world.proofs.Lemmas.{sym, ap, ◌∙◌, PlainDict, dict_put, put_at, with_entries, the_view, dict_in, plain, IsNode, opened-one, grows-seen, dict-there, other-grows, other-read, put-hold}
+use Rattle.class_world.proofs.DictChanges.{other-sound}
 use Rattle.class_world.proofs.world.World.put_value.Goals as goal
 
 pub invariant_of-self : goal.invariant_of-self

@@ -1,8 +1,4 @@
-use Rattle.std.proofs.Common.{ap, sym, ◌∙◌}
-use Rattle.py_node.specs.Attributes.{value_of}
-use Rattle.plain_machine.specs.World.{is_text}
-use Rattle.class_world.specs.Reading.{bindings}
-use Rattle.class_world.proofs.Bound.{value-read, value-holds}
+use Rattle.class_world.proofs.Lemmas.{ap, sym, ◌∙◌, value_of, is_text, bindings, value-read, value-holds}
 use Rattle.class_world.proofs.world.World.qualified.Goals as goal
 
 pub returns-clause-value : goal.returns-clause-value

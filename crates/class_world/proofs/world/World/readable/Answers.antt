@@ -1,4 +1,4 @@
-use Rattle.class_world.proofs.Readable.{readable}
+use Rattle.class_world.proofs.Lemmas.{readable}
 use Rattle.class_world.proofs.world.World.readable.Goals as goal
 
 pub returns : goal.returns

@@ -1,7 +1,4 @@
-use Rattle.class_world.specs.contracts.world.World.{the_view}
-use Rattle.class_world.specs.Sound.{of_class_ref, of_each}
-use Rattle.class_world.proofs.Claims.{opened}
-use Rattle.class_world.proofs.ClassChanges.{bases-there}
+use Rattle.class_world.proofs.Lemmas.{the_view, of_class_ref, of_each, opened, bases-there}
 use Rattle.class_world.proofs.world.World.refuse_name.Goals as goal
 
 pub may_derive-requires : goal.may_derive-requires

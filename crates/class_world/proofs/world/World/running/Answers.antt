@@ -1,7 +1,4 @@
-use Rattle.std.proofs.Common.{sym, ap, ◌∙◌}
-use Rattle.class_world.specs.contracts.world.World.{the_view}
-use Rattle.class_world.specs.Bound.{last_function}
-use Rattle.class_world.proofs.Bodies.{function-read, function-there}
+use Rattle.class_world.proofs.Lemmas.{sym, ap, ◌∙◌, the_view, last_function, function-read, function-there}
 use Rattle.class_world.proofs.world.World.running.Goals as goal
 
 pub returns-clause-function : goal.returns-clause-function

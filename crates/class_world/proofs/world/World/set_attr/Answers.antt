@@ -1,13 +1,5 @@
-use Rattle.std.proofs.Common.{◌≡◌, ◌++◌, ◌∷◌, [], OnOk, sym, subst, ◌∙◌}
-use Rattle.class_log.specs.Change.{SetOwn}
-use Rattle.class_log.proofs.Logged.{keeps-more}
-use Rattle.class_world.specs.Held.{Held}
-use Rattle.class_world.specs.contracts.world.World.{the_view}
-use Rattle.class_world.specs.Sound.{Holds, IsClass, IsName, IsNode}
-use Rattle.class_world.proofs.Claims.{opened-one}
-use Rattle.class_world.proofs.Growth.{grows-seen}
-use Rattle.class_world.proofs.ClassChanges.{classes-grow, set-like, set-sound, set-read, unchanged}
-use Rattle.class_world.proofs.OfClasses.{refused-seen}
+use Rattle.class_world.proofs.Lemmas.{[], OnOk, sym, subst, ◌∙◌, SetOwn, keeps-more, Held, the_view, Holds, IsClass, IsName, IsNode, opened-one, grows-seen, classes-grow, set-like, set-sound, set-read, unchanged, refused-seen}
+use Rattle.std.proofs.Common.{◌≡◌, ◌++◌, ◌∷◌}
 use Rattle.class_world.proofs.world.World.set_attr.Goals as goal
 
 pub set_attr-requires : goal.set_attr-requires

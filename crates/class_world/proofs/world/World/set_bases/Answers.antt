@@ -1,19 +1,5 @@
-use Rattle.std.proofs.Common.{◌≡◌, ◌++◌, ◌∷◌, [], OnOk, ◌+◌, ◌*◌, ◌≤◌, length, subst}
-use Rattle.class_model.specs.Change.{with_bases}
-use Rattle.class_log.specs.Change.{SetBases}
-use Rattle.class_table.specs.Descendants.{descendants}
-use Rattle.class_table.specs.Keys.{numbers}
-use Rattle.class_table.specs.Settle.{line_places}
-use Rattle.class_log.proofs.Logged.{keeps-more}
-use Rattle.class_world.specs.Held.{Held}
-use Rattle.class_world.specs.contracts.world.World.{the_view}
-use Rattle.class_world.specs.Reading.{Reads}
-use Rattle.class_world.specs.Sound.{IsClass, of_class_ref, of_each}
-use Rattle.class_world.proofs.Claims.{opened, opened-one}
-use Rattle.class_world.proofs.Growth.{grows-seen}
-use Rattle.class_world.proofs.ClassChanges.{classes-grow, bases-there, unchanged}
-use Rattle.class_world.proofs.NewBases.{first-seen, early-seen, told-seen, bases-like, bases-sound, bases-set}
-use Rattle.class_world.proofs.OneBase.{class-there}
+use Rattle.class_world.proofs.Lemmas.{[], OnOk, length, subst, with_bases, SetBases, descendants, numbers, line_places, keeps-more, Held, the_view, Reads, IsClass, of_class_ref, of_each, opened, opened-one, grows-seen, classes-grow, bases-there, unchanged, first-seen, early-seen, told-seen, bases-like, bases-sound, bases-set, class-there}
+use Rattle.std.proofs.Common.{◌≡◌, ◌++◌, ◌∷◌, ◌+◌, ◌*◌, ◌≤◌}
 use Rattle.class_world.proofs.world.World.set_bases.Goals as goal
 
 pub set_bases-requires-clause-own : goal.set_bases-requires-clause-own

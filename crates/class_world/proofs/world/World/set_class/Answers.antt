@@ -1,12 +1,5 @@
-use Rattle.std.proofs.Common.{◌≡◌, true, false, None, refl, sym, ap, ◌∙◌}
-use Rattle.class_table.specs.Rebase.{refused_class}
-use Rattle.class_table.specs.Refused.{cause_of}
-use Rattle.class_world.specs.contracts.world.World.{the_view}
-use Rattle.class_world.specs.Sound.{Holds, IsNode, IsClass, of_node, with_class_ref}
-use Rattle.class_world.proofs.Claims.{got, opened-one, each-get}
-use Rattle.class_world.proofs.Growth.{grows-seen}
-use Rattle.class_world.proofs.NodeChanges.{change-grows, change-sound, change-read}
-use Rattle.class_world.proofs.Reclassed.{class-moved, class-set-holds, class-told, same-layout, was-heap}
+use Rattle.class_world.proofs.Lemmas.{true, false, None, refl, sym, ap, ◌∙◌, refused_class, cause_of, the_view, Holds, IsNode, IsClass, of_node, with_class_ref, got, opened-one, each-get, grows-seen, change-grows, change-sound, change-read, class-moved, class-set-holds, class-told, same-layout, was-heap}
+use Rattle.std.proofs.Common.{◌≡◌}
 use Rattle.class_world.proofs.world.World.set_class.Goals as goal
 
 pub index-requires : goal.index-requires

@@ -1,8 +1,4 @@
-use Rattle.class_world.specs.contracts.world.World.{the_view}
-use Rattle.class_world.specs.Sound.{Holds, IsNode, IsClass}
-use Rattle.class_world.proofs.Claims.{opened-one}
-use Rattle.class_world.proofs.Growth.{grows-seen}
-use Rattle.class_world.proofs.Defined.{define-grows, define-sound, define-read}
+use Rattle.class_world.proofs.Lemmas.{the_view, Holds, IsNode, IsClass, opened-one, grows-seen, define-grows, define-sound, define-read}
 use Rattle.class_world.proofs.world.World.set_definer.Goals as goal
 
 pub index_mut-requires : goal.index_mut-requires

@@ -1,14 +1,4 @@
-use Rattle.std.proofs.Common.{Some, refl, sym, ap, ◌∙◌}
-use Rattle.std.specs.Prelude.{is_some, option_and_then}
-use Rattle.plain_machine.specs.Plain.{Node}
-use Rattle.py_node.specs.declared.built_in.BuiltIn.TheVariants.{Dict}
-use Rattle.class_world.specs.contracts.world.World.{the_view}
-use Rattle.class_world.specs.Sound.{Holds, Holding, IsNode, of_node, with_dict_ref}
-use Rattle.class_world.proofs.Claims.{got, opened-one, each-get}
-use Rattle.class_world.proofs.Growth.{grows-seen}
-use Rattle.class_world.proofs.Look.{node-read}
-use Rattle.class_world.proofs.NodeChanges.{change-grows, change-sound, change-read}
-use Rattle.class_world.proofs.Reclassed.{dict-set-holds}
+use Rattle.class_world.proofs.Lemmas.{Some, refl, sym, ap, ◌∙◌, is_some, option_and_then, Node, Dict, the_view, Holds, Holding, IsNode, of_node, with_dict_ref, got, opened-one, each-get, grows-seen, node-read, change-grows, change-sound, change-read, dict-set-holds}
 use Rattle.class_world.proofs.world.World.set_dict.Goals as goal
 
 pub index_mut-requires : goal.index_mut-requires

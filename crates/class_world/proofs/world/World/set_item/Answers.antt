@@ -1,7 +1,4 @@
-use Rattle.class_world.specs.contracts.world.World.{the_view}
-use Rattle.class_world.specs.Sound.{Holds, IsNode}
-use Rattle.class_world.proofs.Claims.{opened-one}
-use Rattle.class_world.proofs.ListChanges.{item-set, place-there}
+use Rattle.class_world.proofs.Lemmas.{the_view, Holds, IsNode, opened-one, item-set, place-there}
 use Rattle.class_world.proofs.world.World.set_item.Goals as goal
 
 pub index_mut-requires : goal.index_mut-requires

@@ -1,13 +1,4 @@
-use Rattle.std.proofs.Common.{Some}
-use Rattle.class_model.specs.Layout.{place_at}
-use Rattle.class_model.proofs.Numbers.{some-of}
-use Rattle.plain_machine.proofs.Offsets.{offset-place}
-use Rattle.class_world.specs.contracts.world.World.{the_view}
-use Rattle.class_world.specs.Claims.{of_setter}
-use Rattle.class_world.specs.Sound.{Holds, IsNode, IsOffset}
-use Rattle.class_world.proofs.Claims.{got, opened, opened-one}
-use Rattle.class_world.proofs.Growth.{grows-seen}
-use Rattle.class_world.proofs.NodeMembers.{instance-sub, offset-fits, member-sound, member-grows, member-set, member-stands}
+use Rattle.class_world.proofs.Lemmas.{Some, place_at, some-of, offset-place, the_view, of_setter, Holds, IsNode, IsOffset, got, opened, opened-one, grows-seen, instance-sub, offset-fits, member-sound, member-grows, member-set, member-stands}
 use Rattle.class_world.proofs.world.World.set_member_value.Goals as goal
 
 pub index_mut-requires : goal.index_mut-requires

@@ -1,13 +1,5 @@
-use Rattle.std.proofs.Common.{refl, ap}
-use Rattle.class_log.proofs.Logged.{keeps-itself, named-logged}
-use Rattle.class_world.specs.Held.{Held}
-use Rattle.class_world.specs.contracts.world.World.{the_view}
-use Rattle.class_world.specs.Sound.{IsClass}
-use Rattle.class_world.proofs.Claims.{opened-one}
-use Rattle.class_world.proofs.Growth.{grows-seen}
-use Rattle.class_world.proofs.ClassChanges.{classes-grow}
-use Rattle.class_world.proofs.ChangedClass.{called, called-read, change-like, change-sound}
-use Rattle.class_world.proofs.OneBase.{class-there}
+use Rattle.class_world.proofs.Lemmas.{refl, ap, keeps-itself, named-logged, Held, the_view, IsClass, opened-one, grows-seen, classes-grow, called, called-read, change-like, class-there}
+use Rattle.class_world.proofs.ChangedClass.{change-sound}
 use Rattle.class_world.proofs.world.World.set_name.Goals as goal
 
 pub set_name-requires-clause-there : goal.set_name-requires-clause-there

@@ -1,8 +1,4 @@
-use Rattle.class_world.specs.contracts.world.World.{the_view}
-use Rattle.class_world.specs.Sound.{IsNode, Holds, of_payload}
-use Rattle.class_world.proofs.Claims.{opened, opened-one}
-use Rattle.class_world.proofs.Growth.{grows-seen}
-use Rattle.class_world.proofs.PayloadChanges.{there, payload-grows, payload-sound, payload-read}
+use Rattle.class_world.proofs.Lemmas.{the_view, IsNode, Holds, of_payload, opened, opened-one, grows-seen, there, payload-grows, payload-sound, payload-read}
 use Rattle.class_world.proofs.world.World.set_payload.Goals as goal
 
 pub index_mut-requires : goal.index_mut-requires

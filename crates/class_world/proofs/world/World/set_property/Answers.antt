@@ -1,10 +1,4 @@
-use Rattle.std.proofs.Common.{subst, sym}
-use Rattle.class_world.specs.contracts.world.World.{the_view}
-use Rattle.class_world.specs.Defined.{with_parts}
-use Rattle.class_world.specs.Sound.{AllHold, IsNode, Holds, of_property}
-use Rattle.class_world.proofs.Claims.{opened, opened-one}
-use Rattle.class_world.proofs.Growth.{grows-seen}
-use Rattle.class_world.proofs.PayloadChanges.{property-there, payload-grows, payload-sound, payload-read}
+use Rattle.class_world.proofs.Lemmas.{subst, sym, the_view, with_parts, AllHold, IsNode, Holds, of_property, opened, opened-one, grows-seen, property-there, payload-grows, payload-sound, payload-read}
 use Rattle.class_world.proofs.world.World.set_property.Goals as goal
 
 pub index_mut-requires : goal.index_mut-requires

@@ -1,6 +1,4 @@
-use Rattle.std.proofs.Common.{◌∙◌}
-use Rattle.std.proofs.lemmas.Result.{on_ok_weaker}
-use Rattle.class_world.proofs.DictReads.{none-named, first-named, add-read, put-read}
+use Rattle.class_world.proofs.Lemmas.{◌∙◌, on_ok_weaker, none-named, first-named, add-read, put-read}
 use Rattle.class_world.proofs.world.World.set_value_in.Goals as goal
 
 pub returns-in-None-clause-set : goal.returns-in-None-clause-set

@@ -1,9 +1,5 @@
-use Rattle.std.proofs.Common.{◌∷◌, [], sym, ◌∙◌}
-use Rattle.std.proofs.lemmas.Result.{on_ok_weaker}
-use Rattle.class_world.specs.Keyed.{held_dict}
-use Rattle.class_world.specs.Reading.{plain}
-use Rattle.class_world.specs.Sound.{CanBeKeys}
-use Rattle.class_world.proofs.KeyEntries.{put-entry, push-differs, push-entry, stored-place, under-set}
+use Rattle.class_world.proofs.Lemmas.{[], sym, ◌∙◌, on_ok_weaker, held_dict, plain, CanBeKeys, put-entry, push-differs, push-entry, stored-place, under-set}
+use Rattle.std.proofs.Common.{◌∷◌}
 use Rattle.class_world.proofs.world.World.set_value_under.Goals as goal
 
 pub push_entry-requires-clause-differs : goal.push_entry-requires-clause-differs

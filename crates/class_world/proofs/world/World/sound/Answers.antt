@@ -1,5 +1,4 @@
-use Rattle.class_world.specs.contracts.world.World.{the_view}
-use Rattle.class_world.proofs.SoundWorld.{world-sound}
+use Rattle.class_world.proofs.Lemmas.{the_view, world-sound}
 use Rattle.class_world.proofs.world.World.sound.Goals as goal
 
 pub returns : goal.returns

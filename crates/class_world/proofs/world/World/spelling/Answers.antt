@@ -1,8 +1,4 @@
-use Rattle.std.proofs.Common.{sym, ◌∙◌, subst}
-use Rattle.class_world.specs.contracts.world.World.{the_view}
-use Rattle.class_world.specs.Sound.{Holds, IsName}
-use Rattle.class_world.specs.Reading.{Reads}
-use Rattle.class_world.proofs.Claims.{opened-one}
+use Rattle.class_world.proofs.Lemmas.{sym, ◌∙◌, subst, the_view, Holds, IsName, Reads, opened-one}
 use Rattle.class_world.proofs.world.World.spelling.Goals as goal
 
 pub text-requires : goal.text-requires

@@ -1,6 +1,4 @@
-use Rattle.class_world.specs.contracts.world.World.{the_view}
-use Rattle.class_world.proofs.Growth.{lasts-seen}
-use Rattle.class_world.proofs.Bound.{other-sound, other-lasts}
+use Rattle.class_world.proofs.Lemmas.{the_view, lasts-seen, other-sound, other-lasts}
 use Rattle.class_world.proofs.world.World.take_calls.Goals as goal
 
 pub invariant_of-self : goal.invariant_of-self

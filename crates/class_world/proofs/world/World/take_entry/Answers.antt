@@ -1,12 +1,5 @@
-use Rattle.std.proofs.Common.{sym, ap, ◌∙◌}
-use Rattle.std.specs.List.{remove}
-use Rattle.py_node.specs.Dicts.{PlainDict, dict_removed}
-use Rattle.plain_machine.specs.Dicts.{with_entries}
-use Rattle.class_world.specs.contracts.world.World.{the_view}
-use Rattle.class_world.specs.Keyed.{dict_in}
-use Rattle.class_world.specs.Reading.{plain}
-use Rattle.class_world.proofs.Growth.{grows-seen}
-use Rattle.class_world.proofs.DictChanges.{dict-there, other-grows, other-sound, other-read, removed-hold}
+use Rattle.class_world.proofs.Lemmas.{sym, ap, ◌∙◌, remove, PlainDict, dict_removed, with_entries, the_view, dict_in, plain, grows-seen, dict-there, other-grows, other-read, removed-hold}
+use Rattle.class_world.proofs.DictChanges.{other-sound}
 use Rattle.class_world.proofs.world.World.take_entry.Goals as goal
 
 pub invariant_of-self : goal.invariant_of-self

@@ -1,5 +1,4 @@
-use Rattle.std.proofs.Common.{◌∙◌}
-use Rattle.class_world.proofs.DictReads.{none-named, first-named, kept-read, taken-read}
+use Rattle.class_world.proofs.Lemmas.{◌∙◌, none-named, first-named, kept-read, taken-read}
 use Rattle.class_world.proofs.world.World.take_value_out.Goals as goal
 
 pub returns-in-None-clause-taken : goal.returns-in-None-clause-taken

@@ -1,6 +1,4 @@
-use Rattle.std.proofs.Common.{sym, ap, ◌∙◌, true≢false}
-use Rattle.std.specs.Prelude.{is_some}
-use Rattle.class_world.proofs.KeyEntries.{under-none, under-taken, under-there}
+use Rattle.class_world.proofs.Lemmas.{sym, ap, ◌∙◌, true≢false, is_some, under-none, under-taken, under-there}
 use Rattle.class_world.proofs.world.World.take_value_under.Goals as goal
 
 pub returns-in-None-clause-there : goal.returns-in-None-clause-there

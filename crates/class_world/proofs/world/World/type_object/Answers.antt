@@ -1,6 +1,4 @@
-use Rattle.std.proofs.Common.{ap, ◌∙◌}
-use Rattle.plain_machine.specs.Objects.{object_for}
-use Rattle.class_world.specs.Reading.{plain}
+use Rattle.class_world.proofs.Lemmas.{ap, ◌∙◌, object_for, plain}
 use Rattle.class_world.proofs.world.World.type_object.Goals as goal
 
 pub returns-clause-object : goal.returns-clause-object

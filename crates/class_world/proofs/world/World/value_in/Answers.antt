@@ -1,11 +1,5 @@
-use Rattle.std.proofs.Common.{◌≡◌, ◌<◌, Some, length, map, get_or, ap, ◌∙◌, subst, arith}
-use Rattle.std.specs.Prelude.{option_map}
-use Rattle.plain_machine.specs.Dicts.{Entries}
-use Rattle.class_world.specs.Keyed.{is_held_key, held_entries, held_text}
-use Rattle.class_world.specs.Sound.{AreNodes, Holds}
-use Rattle.class_world.proofs.Claims.{got-map, node-in}
-use Rattle.class_world.proofs.DictEntries.{first-key, get-below}
-use Rattle.class_world.proofs.DictReads.{none-named, first-named, no-value, first-value}
+use Rattle.class_world.proofs.Lemmas.{Some, length, map, get_or, ap, ◌∙◌, subst, arith, option_map, Entries, is_held_key, held_entries, held_text, AreNodes, Holds, got-map, node-in, first-key, get-below, none-named, first-named, no-value, first-value}
+use Rattle.std.proofs.Common.{◌≡◌, ◌<◌}
 use Rattle.class_world.proofs.world.World.value_in.Goals as goal
 
 pub returns-in-None-clause-value : goal.returns-in-None-clause-value

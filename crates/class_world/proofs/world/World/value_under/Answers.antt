@@ -1,11 +1,5 @@
-use Rattle.std.proofs.Common.{◌<◌, Some, length, map, get_or, ap, ◌∙◌, subst}
-use Rattle.std.specs.Prelude.{option_map}
-use Rattle.plain_machine.specs.Dicts.{Entries}
-use Rattle.class_world.specs.Keyed.{held_dict}
-use Rattle.class_world.specs.Sound.{AreNodes, Holds}
-use Rattle.class_world.proofs.Claims.{got-map, node-in}
-use Rattle.class_world.proofs.DictEntries.{get-below}
-use Rattle.class_world.proofs.KeyEntries.{under-none, under-some}
+use Rattle.class_world.proofs.Lemmas.{Some, length, map, get_or, ap, ◌∙◌, subst, option_map, Entries, held_dict, AreNodes, Holds, got-map, node-in, get-below, under-none, under-some}
+use Rattle.std.proofs.Common.{◌<◌}
 use Rattle.class_world.proofs.world.World.value_under.Goals as goal
 
 pub returns-in-None-clause-value : goal.returns-in-None-clause-value

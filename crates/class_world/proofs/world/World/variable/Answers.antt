@@ -1,7 +1,4 @@
-use Rattle.std.proofs.Common.{sym, ap, ◌∙◌}
-use Rattle.class_world.specs.contracts.world.World.{the_view}
-use Rattle.class_world.specs.Bound.{value_in}
-use Rattle.class_world.proofs.Bound.{variable-read, value-there}
+use Rattle.class_world.proofs.Lemmas.{sym, ap, ◌∙◌, the_view, value_in, variable-read, value-there}
 use Rattle.class_world.proofs.world.World.variable.Goals as goal
 
 pub returns-clause-found : goal.returns-clause-found

@@ -1,11 +1,5 @@
-use Rattle.std.proofs.Common.{◌∷◌, [], sym, ap, subst, ◌∙◌}
-use Rattle.py_node.specs.Dicts.{PlainDict}
-use Rattle.plain_machine.specs.Dicts.{with_entry}
-use Rattle.class_world.specs.Keyed.{of_keyed}
-use Rattle.class_world.specs.Sound.{AllHold, CanBeKeys, IsNode}
-use Rattle.class_world.proofs.Claims.{all-grow}
-use Rattle.class_world.proofs.DictChanges.{put-hold, pushed-hold}
-use Rattle.class_world.proofs.KeyEntries.{put-entry, push-differs, push-entry, stored-place}
+use Rattle.class_world.proofs.Lemmas.{[], sym, ap, subst, ◌∙◌, PlainDict, with_entry, of_keyed, AllHold, CanBeKeys, IsNode, all-grow, put-hold, pushed-hold, put-entry, push-differs, push-entry, stored-place}
+use Rattle.std.proofs.Common.{◌∷◌}
 use Rattle.class_world.proofs.world.World.with_entry.Goals as goal
 
 pub returns-in-Some-clause-entries : goal.returns-in-Some-clause-entries

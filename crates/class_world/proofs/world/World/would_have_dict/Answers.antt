@@ -1,6 +1,4 @@
-use Rattle.std.proofs.Common.{sym, ◌∙◌}
-use Rattle.class_world.specs.contracts.world.World.{the_view}
-use Rattle.class_world.proofs.HeapClass.{dict-read}
+use Rattle.class_world.proofs.Lemmas.{sym, ◌∙◌, the_view, dict-read}
 use Rattle.class_world.proofs.world.World.would_have_dict.Goals as goal
 
 pub returns : goal.returns

@@ -1,7 +1,6 @@
 -- A product that wraps may be added to before it wraps.
-use Rattle.std.proofs.Common.{◌*◌, ap}
-use Rattle.std.proofs.Math.Nat.{mod-add-mod}
-use Rattle.generator.specs.Draws.{next}
+use Rattle.generator.proofs.Lemmas.{ap, mod-add-mod, next}
+use Rattle.std.proofs.Common.{◌*◌}
 use Rattle.generator.proofs.draws.Draws.below.Goals as goal
 
 pub returns-clause-moves : goal.returns-clause-moves

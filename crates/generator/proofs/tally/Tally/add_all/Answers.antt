@@ -1,10 +1,6 @@
 -- The replies are counted one after another.
-use Rattle.std.proofs.Common.{arith, ◌≡◌, ◌<◌, ◌+◌, ℕ, List, [], ◌∷◌, ◌++◌, map, take, length, slice_index_or, sym, ap, ◌∙◌, subst}
-use Rattle.std.proofs.lemmas.List.{append-nil, append_assoc, map_more, take_all}
-use Rattle.py_node.specs.declared.reply.Reply.{Reply}
-use Rattle.py_node.specs.Replies.{PlainReply, reply_of}
-use Rattle.generator.specs.Summary.{Counts}
-use Rattle.generator.proofs.Sorts.{counts-one-more}
+use Rattle.generator.proofs.Lemmas.{arith, ℕ, List, [], map, take, length, slice_index_or, sym, ap, ◌∙◌, subst, append-nil, append_assoc, map_more, take_all, Reply, PlainReply, reply_of, Counts, counts-one-more}
+use Rattle.std.proofs.Common.{◌≡◌, ◌<◌, ◌+◌, ◌∷◌, ◌++◌}
 use Rattle.generator.proofs.tally.Tally.add_all.Goals as goal
 
 pub loop-reply-init : goal.loop-reply-init

@@ -1,6 +1,5 @@
-use Rattle.std.proofs.Common.{◌≡◌, ◌+◌, ◌++◌, List, map, take}
-use Rattle.py_node.specs.Replies.{PlainReply, reply_of}
-use Rattle.generator.specs.Summary.{Counts}
+use Rattle.generator.proofs.Below.{List, map, take, PlainReply, reply_of, Counts}
+use Rattle.std.proofs.Common.{◌≡◌, ◌+◌, ◌++◌}
 use Rattle.generator.proofs.tally.Tally.add_all.Given as goal
 
 -- the replies so far are counted

@@ -1,6 +1,4 @@
-use Rattle.std.proofs.Common.{◌∙◌, ap}
-use Rattle.py_node.specs.Attributes.{with_value, is_same_name}
-use Rattle.py_node.proofs.Entries.{insert_entry-with_value}
+use Rattle.py_node.proofs.Lemmas.{◌∙◌, ap, with_value, is_same_name, insert_entry-with_value}
 use Rattle.py_node.proofs.attributes.PyAttributes.insert.Goals as goal
 
 pub returns-clause-ok : goal.returns-clause-ok

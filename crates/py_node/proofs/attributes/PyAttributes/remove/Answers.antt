@@ -1,6 +1,4 @@
-use Rattle.std.proofs.Common.{sym, ap, subst, ◌∙◌}
-use Rattle.py_node.specs.Attributes.{without_key, is_same_name, AreNamesDistinct}
-use Rattle.py_node.proofs.Entries.{removed-without}
+use Rattle.py_node.proofs.Lemmas.{sym, ap, subst, ◌∙◌, without_key, is_same_name, AreNamesDistinct, removed-without}
 use Rattle.py_node.proofs.attributes.PyAttributes.remove.Goals as goal
 
 pub returns-clause-left : goal.returns-clause-left

@@ -1,6 +1,5 @@
-use Rattle.std.proofs.Common.{◌≡◌, suc, ◌+◌, take, ◌∙◌, ap, arith}
-use Rattle.py_node.specs.Attributes.{with_value, is_same_name}
-use Rattle.py_node.proofs.Entries.{with_value-next}
+use Rattle.py_node.proofs.Lemmas.{suc, take, ◌∙◌, ap, arith, with_value, is_same_name, with_value-next}
+use Rattle.std.proofs.Common.{◌≡◌, ◌+◌}
 use Rattle.py_node.proofs.attributes.PyAttributes.try_clone.Goals as goal
 
 pub loop-i-preserved : goal.loop-i-preserved

@@ -1,6 +1,5 @@
-use Rattle.std.proofs.Common.{◌<◌, length, sym, ap, ◌∙◌, subst}
-use Rattle.py_node.specs.Dicts.{PlainDict, dict_put}
-use Rattle.py_node.proofs.Dicts.{put-is}
+use Rattle.py_node.proofs.Lemmas.{length, sym, ap, ◌∙◌, subst, PlainDict, dict_put, put-is}
+use Rattle.std.proofs.Common.{◌<◌}
 use Rattle.py_node.proofs.dict.PyDict.put.Goals as goal
 
 pub returns : goal.returns

@@ -1,6 +1,5 @@
-use Rattle.std.proofs.Common.{◌≡◌, ◌<◌, ◌≤◌, ◌-◌, ◌∙◌, [], ap, length, sym, subst, slice_index_or, arith}
-use Rattle.std.proofs.lemmas.List.{get_or-map}
-use Rattle.py_node.proofs.SlotTables.{names_of_number, names_of_other}
+use Rattle.py_node.proofs.Lemmas.{◌∙◌, [], ap, length, sym, subst, slice_index_or, arith, get_or-map, names_of_number, names_of_other}
+use Rattle.std.proofs.Common.{◌≡◌, ◌<◌, ◌≤◌, ◌-◌}
 use Rattle.py_node.proofs.entry.SlotId.special_names.Goals as goal
 
 pub returns-then-place-numbers : goal.returns-then-place-numbers

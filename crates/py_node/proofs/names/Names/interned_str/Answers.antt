@@ -1,7 +1,5 @@
-use Rattle.std.proofs.Common.{◌≡◌, ℕ, ◌∙◌, ap, subst, sym, Some, slice_get, string_bytes}
-use Rattle.std.specs.Option.{option_map}
-use Rattle.std.proofs.lemmas.Option.{slice_get-map}
-use Rattle.py_node.proofs.Texts.{found_is, none_stands}
+use Rattle.py_node.proofs.Lemmas.{ℕ, ◌∙◌, ap, subst, sym, Some, slice_get, string_bytes, option_map, slice_get-map, found_is, none_stands}
+use Rattle.std.proofs.Common.{◌≡◌}
 use Rattle.py_node.proofs.names.Names.interned_str.Goals as goal
 
 pub returns-in-Some-clause-found : goal.returns-in-Some-clause-found

@@ -1,6 +1,5 @@
-use Rattle.std.proofs.Common.{◌≡◌, [], ◌∷◌, ◌++◌, map, ◌∙◌, ap, subst, sym, string_bytes}
-use Rattle.py_node.specs.Texts.{AreDistinct, Stands}
-use Rattle.py_node.proofs.Texts.{AreDistinct-push, texts-insert}
+use Rattle.py_node.proofs.Lemmas.{[], map, ◌∙◌, ap, subst, sym, string_bytes, AreDistinct, Stands, AreDistinct-push, texts-insert}
+use Rattle.std.proofs.Common.{◌≡◌, ◌∷◌, ◌++◌}
 use Rattle.py_node.proofs.names.Names.push.Goals as goal
 
 -- the text is new

@@ -1,6 +1,6 @@
-use Rattle.std.proofs.Common.{sym, ap, ◌∙◌, ◌≡◌, Some}
+use Rattle.seat_lock.proofs.Lemmas.{sym, ap, ◌∙◌, Some, ends, whole, some_of}
+use Rattle.std.proofs.Common.{◌≡◌}
 use mathlib.Core.Option.{some-injective}
-use Rattle.seat_lock.proofs.Rows.{ends, whole, some_of}
 use Rattle.seat_lock.proofs.lock.SeatLock.close.Goals as goal
 
 pub unwrap-value-requires : goal.unwrap-value-requires

@@ -1,5 +1,4 @@
-use Rattle.std.proofs.Common.{sym, ap, ◌∙◌}
-use Rattle.seat_lock.proofs.Turning.{made_turn, after_turn}
+use Rattle.seat_lock.proofs.Lemmas.{sym, ap, ◌∙◌, made_turn, after_turn}
 use Rattle.seat_lock.proofs.lock.SeatLock.give.Goals as goal
 
 pub invariant_of-seat : goal.invariant_of-seat

@@ -1,6 +1,4 @@
-use Rattle.std.proofs.Common.{rules, sym, ap, ◌∙◌}
-use Rattle.seat_lock.proofs.Cutting.{copies}
-use Rattle.seat_lock.proofs.Turning.{learnt_own}
+use Rattle.seat_lock.proofs.Lemmas.{rules, sym, ap, ◌∙◌, copies, learnt_own}
 use Rattle.seat_lock.proofs.lock.SeatLock.meet.Goals as goal
 
 pub split_seat-copy-requires : goal.split_seat-copy-requires

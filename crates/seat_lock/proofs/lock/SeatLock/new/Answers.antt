@@ -1,8 +1,5 @@
-use Rattle.std.proofs.Common.{arith, sym, ap, ◌∙◌, ◌∷◌, ◌++◌, [], subst, Some}
-use Rattle.atomic_table.specs.Table.{opening}
-use Rattle.seat_lock.specs.Rule.{HasOneHistory, founder}
-use Rattle.seat_lock.proofs.Ends.{opens}
-use Rattle.seat_lock.proofs.Rows.{free_row}
+use Rattle.seat_lock.proofs.Lemmas.{arith, sym, ap, ◌∙◌, [], subst, Some, opening, HasOneHistory, founder, opens, free_row}
+use Rattle.std.proofs.Common.{◌∷◌, ◌++◌}
 use Rattle.seat_lock.proofs.lock.SeatLock.new.Goals as goal
 
 pub new-requires : goal.new-requires

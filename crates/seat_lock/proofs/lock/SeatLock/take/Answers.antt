@@ -1,4 +1,4 @@
-use Rattle.seat_lock.proofs.Turning.{took, took_seen, room_left}
+use Rattle.seat_lock.proofs.Lemmas.{took, took_seen, room_left}
 use Rattle.seat_lock.proofs.lock.SeatLock.take.Goals as goal
 
 pub invariant_of-seat : goal.invariant_of-seat

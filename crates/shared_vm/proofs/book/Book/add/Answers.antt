@@ -1,7 +1,5 @@
-use Rattle.std.proofs.Common.{◌≡◌, ◌++◌, ◌∷◌, [], List, length, Some, refl, ap, ◌∙◌}
-use Rattle.shared_vm.specs.declared.entry.Entry.{Entry}
-use Rattle.shared_vm.specs.Book.{Pages}
-use Rattle.shared_vm.proofs.Steps.{true_added, on_err}
+use Rattle.shared_vm.proofs.Lemmas.{[], List, length, Some, refl, ap, ◌∙◌, Entry, Pages, true_added, on_err}
+use Rattle.std.proofs.Common.{◌≡◌, ◌++◌, ◌∷◌}
 use Rattle.shared_vm.proofs.book.Book.add.Goals as goal
 
 pub invariant_of-self-in_err-copy : goal.invariant_of-self-in_err-copy

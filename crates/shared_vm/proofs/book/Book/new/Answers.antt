@@ -1,7 +1,4 @@
-use Rattle.std.proofs.Common.{subst}
-use Rattle.class_world.specs.Held.{Held}
-use Rattle.class_world.specs.Reading.{IsReadable}
-use Rattle.shared_vm.proofs.Steps.{true_new}
+use Rattle.shared_vm.proofs.Lemmas.{subst, Held, IsReadable, true_new}
 use Rattle.shared_vm.proofs.book.Book.new.Goals as goal
 
 pub invariant_of-result : goal.invariant_of-result

@@ -1,8 +1,4 @@
-use Rattle.std.proofs.Common.{ℕ, Some, None, Ok, Err, sym, ap, ◌∙◌, subst}
-use Rattle.py_node.specs.Tree.{tree_of}
-use Rattle.shared_vm.specs.declared.entry.ExecFault.{ExecFault}
-use Rattle.shared_vm.specs.Book.{Pages, Stepped}
-use Rattle.shared_vm.proofs.Histories.{adds_none, stands_kept, stands_lost, executed_ok, executed_lost, executed_failed}
+use Rattle.shared_vm.proofs.Lemmas.{ℕ, Some, None, Ok, Err, sym, ap, ◌∙◌, subst, tree_of, ExecFault, Pages, Stepped, adds_none, stands_kept, stands_lost, executed_ok, executed_lost, executed_failed}
 use Rattle.shared_vm.proofs.shared.SharedVm.execute.Goals as goal
 
 pub keep-requires-clause-book : goal.keep-requires-clause-book

@@ -1,5 +1,4 @@
-use Rattle.std.proofs.Common.{None, refl}
-use Rattle.shared_vm.proofs.Histories.{adds_none, named, stands_kept}
+use Rattle.shared_vm.proofs.Lemmas.{None, refl, adds_none, named, stands_kept}
 use Rattle.shared_vm.proofs.shared.SharedVm.interned.Goals as goal
 
 pub keep-requires-clause-book : goal.keep-requires-clause-book

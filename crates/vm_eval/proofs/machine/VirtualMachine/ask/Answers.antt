@@ -1,14 +1,5 @@
-use Rattle.std.proofs.Common.{◌≡◌, ℕ, List, [], length, subst, sym, ap, ◌∙◌}
-use Rattle.plain_machine.specs.Answer.{Out, answer}
-use Rattle.class_world.specs.Reading.{Reads, plain, task_of}
-use Rattle.class_world.specs.Sound.{AllHold, Claim, Grows}
-use Rattle.class_world.proofs.Claims.{all-last}
-use Rattle.class_world.proofs.Growth.{lasts-on}
-use Rattle.vm_eval.specs.Asks.{ending_in, unnoted}
-use Rattle.vm_eval.specs.Say.{say}
-use Rattle.vm_eval.specs.Stack.{ending_of, of_end}
-use Rattle.vm_eval.specs.State.{State}
-use Rattle.vm_eval.proofs.Rests.{none-read, quiet-read, rest-grows, still-none}
+use Rattle.vm_eval.proofs.Lemmas.{ℕ, List, [], length, subst, sym, ap, ◌∙◌, Out, answer, Reads, plain, task_of, AllHold, Claim, Grows, all-last, lasts-on, ending_in, unnoted, say, ending_of, of_end, State, none-read, quiet-read, rest-grows, still-none}
+use Rattle.std.proofs.Common.{◌≡◌}
 use Rattle.vm_eval.proofs.machine.VirtualMachine.ask.Goals as goal
 
 pub returns-then-self-clause-rests : goal.returns-then-self-clause-rests

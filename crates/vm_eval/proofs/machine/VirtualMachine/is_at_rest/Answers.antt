@@ -1,7 +1,5 @@
-use Rattle.std.proofs.Common.{◌≡◌, [], subst}
-use Rattle.class_world.specs.Reading.{plain}
-use Rattle.vm_eval.specs.State.{State}
-use Rattle.vm_eval.proofs.Rests.{none-read, quiet-read}
+use Rattle.vm_eval.proofs.Lemmas.{[], subst, plain, State, none-read, quiet-read}
+use Rattle.std.proofs.Common.{◌≡◌}
 use Rattle.vm_eval.proofs.machine.VirtualMachine.is_at_rest.Goals as goal
 
 pub returns-clause-rests : goal.returns-clause-rests

@@ -1,7 +1,5 @@
-use Rattle.std.proofs.Common.{◌≡◌, [], subst}
-use Rattle.class_world.specs.Reading.{plain}
-use Rattle.vm_eval.specs.State.{State}
-use Rattle.vm_eval.proofs.Rests.{none-read, still-none}
+use Rattle.vm_eval.proofs.Lemmas.{[], subst, plain, State, none-read, still-none}
+use Rattle.std.proofs.Common.{◌≡◌}
 use Rattle.vm_eval.proofs.machine.VirtualMachine.make_node.Goals as goal
 
 pub returns-then-self-clause-rests : goal.returns-then-self-clause-rests

@@ -1,8 +1,5 @@
-use Rattle.std.proofs.Common.{◌≡◌, [], refl, ap, ◌∙◌, arith}
-use Rattle.py_node.specs.BuiltIns.{all_built_ins, built_in_flags, place_of, flags_of}
-use Rattle.py_node.specs.OwnAttrs.{own_attrs}
-use Rattle.plain_machine.specs.Start.{with_attr, start}
-use Rattle.vm_eval.proofs.Rests.{none-held, none-read, quiet-held, quiet-read}
+use Rattle.vm_eval.proofs.Lemmas.{[], refl, ap, ◌∙◌, arith, all_built_ins, built_in_flags, place_of, flags_of, own_attrs, with_attr, start, none-held, none-read, quiet-held, quiet-read}
+use Rattle.std.proofs.Common.{◌≡◌}
 use Rattle.vm_eval.proofs.machine.VirtualMachine.new.Goals as goal
 
 start-clear : start.scopes ≡ []

@@ -1,8 +1,5 @@
-use Rattle.std.proofs.Common.{◌≡◌, Some, sym, subst, ◌∙◌, ap}
-use Rattle.class_table.specs.Keys.{numbers}
-use Rattle.class_table.specs.Refused.{refusal, refused_layout}
-use Rattle.class_world.specs.Reading.{plain}
-use Rattle.vm_eval.specs.State.{State}
+use Rattle.vm_eval.proofs.Lemmas.{Some, sym, subst, ◌∙◌, ap, numbers, refusal, refused_layout, plain, State}
+use Rattle.std.proofs.Common.{◌≡◌}
 use Rattle.vm_eval.proofs.machine.VirtualMachine.new_heap_slots.Goals as goal
 
 pub returns-clause-early : goal.returns-clause-early

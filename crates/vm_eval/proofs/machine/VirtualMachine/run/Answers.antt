@@ -1,9 +1,5 @@
-use Rattle.std.proofs.Common.{◌≡◌, [], subst, ◌∙◌}
-use Rattle.class_world.specs.Reading.{plain}
-use Rattle.class_world.specs.Sound.{Grows}
-use Rattle.class_world.proofs.Growth.{lasts-on}
-use Rattle.vm_eval.specs.State.{State}
-use Rattle.vm_eval.proofs.Rests.{none-read, quiet-read, rest-grows, still-none}
+use Rattle.vm_eval.proofs.Lemmas.{[], subst, ◌∙◌, plain, Grows, lasts-on, State, none-read, quiet-read, rest-grows, still-none}
+use Rattle.std.proofs.Common.{◌≡◌}
 use Rattle.vm_eval.proofs.machine.VirtualMachine.run.Goals as goal
 
 pub returns-then-self-clause-rests : goal.returns-then-self-clause-rests

@@ -1,9 +1,5 @@
-use Rattle.std.proofs.Common.{◌≡◌, Some, sym, subst, ◌∙◌, ap}
-use Rattle.std.specs.Prelude.{IsSome}
-use Rattle.class_table.specs.Keys.{numbers}
-use Rattle.class_table.specs.Rebase.{refused_change, told}
-use Rattle.class_world.specs.Reading.{plain}
-use Rattle.vm_eval.specs.State.{State}
+use Rattle.vm_eval.proofs.Lemmas.{Some, sym, subst, ◌∙◌, ap, IsSome, numbers, refused_change, told, plain, State}
+use Rattle.std.proofs.Common.{◌≡◌}
 use Rattle.vm_eval.proofs.machine.VirtualMachine.set_bases.Goals as goal
 
 pub returns-clause-early : goal.returns-clause-early

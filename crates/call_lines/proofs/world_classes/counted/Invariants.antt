@@ -1,4 +1,0 @@
-use Rattle.call_lines.proofs.world_classes.counted.Given as goal
-
-abbrev pub ghosts-rebased : goal.ghosts-rebased
-ghosts-rebased a = record { name = a.blank.name; parts = a.blank.parts }

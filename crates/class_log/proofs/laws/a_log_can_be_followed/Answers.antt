@@ -1,8 +1,0 @@
-use Rattle.class_log.proofs.Logged.{follows, keeps-begins}
-use Rattle.class_log.proofs.laws.a_log_can_be_followed.Goals as goal
-
-pub returns-clause-follows : goal.returns-clause-follows
-returns-clause-follows c = follows
-
-pub returns-clause-begins : goal.returns-clause-begins
-returns-clause-begins c = keeps-begins

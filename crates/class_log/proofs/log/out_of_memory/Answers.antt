@@ -1,9 +1,0 @@
-use Rattle.std.proofs.Common.{ap}
-use Rattle.class_log.specs.Refused.{by_cause}
-use Rattle.class_log.proofs.log.out_of_memory.Goals as goal
-
-pub returns-in-Ok-clause-told : goal.returns-in-Ok-clause-told
-returns-in-Ok-clause-told c = ap by_cause c.in-Ok.ensures
-
-pub returns-in-Err-clause-told : goal.returns-in-Err-clause-told
-returns-in-Err-clause-told c = ap by_cause c.in-Err.ensures

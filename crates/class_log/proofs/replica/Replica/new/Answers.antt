@@ -1,5 +1,0 @@
-use Rattle.class_log.proofs.Followed.{opens}
-use Rattle.class_log.proofs.replica.Replica.new.Goals as goal
-
-pub invariant_of-result : goal.invariant_of-result
-invariant_of-result c = opens c.in_ok-without_rows.field-0 c.new.result.items c.new.ensures.items c.in_ok-without_rows.ensures

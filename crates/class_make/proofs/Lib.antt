@@ -1,7 +1,0 @@
-pub mod Spaces
-pub mod Making
-pub mod Parts
-pub mod EachBase
-pub mod Telling
-pub mod Descriptors
-pub mod Places

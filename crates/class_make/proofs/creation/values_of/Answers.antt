@@ -1,7 +1,0 @@
-use Rattle.std.proofs.Common.{add-one, ap, sym, ◌∙◌, [], ◌∷◌, ◌++◌}
-use Rattle.class_make.proofs.Making.{map-got}
-use Rattle.class_make.proofs.creation.values_of.Goals as goal
-
-pub loop-i-preserved : goal.loop-i-preserved
-loop-i-preserved c =
-    rw add-one (c.in_ok-push.ensures.items ∙ ap (λ vs. vs ++ c.at.result.1 ∷ []) c.loop-i.invariant ∙ sym (map-got (λ a. a.1) c.args.attrs.now c.loop-i.i c.at.result c.at.ensures))

@@ -1,7 +1,0 @@
-use Rattle.std.proofs.Common.{◌≡◌, ◌++◌, filter, not, drop}
-use Rattle.py_node.specs.Attributes.{is_same_name}
-use Rattle.class_make.proofs.hook.without.Given as goal
-
-abbrev pub invariant-loop-key : goal.invariant-loop-key
-invariant-loop-key l =
-    l.rest.items ++ filter (λ k. not (is_same_name k.0 l.name)) (drop l.key-index l.kw) ≡ filter (λ k. not (is_same_name k.0 l.name)) l.kw

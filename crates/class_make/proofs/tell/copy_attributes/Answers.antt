@@ -1,7 +1,0 @@
-use Rattle.std.proofs.Common.{add-one, ap, sym, ◌∙◌, [], ◌∷◌, ◌++◌}
-use Rattle.class_make.proofs.Making.{take-got}
-use Rattle.class_make.proofs.tell.copy_attributes.Goals as goal
-
-pub loop-i-preserved : goal.loop-i-preserved
-loop-i-preserved c =
-    rw add-one (c.in_ok-push.ensures.items ∙ ap (λ vs. vs ++ c.at.result ∷ []) c.loop-i.invariant ∙ sym (take-got c.args.attrs.now c.loop-i.i c.at.result c.at.ensures))

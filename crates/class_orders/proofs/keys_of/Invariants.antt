@@ -1,6 +1,0 @@
-use Rattle.std.proofs.Common.{◌≡◌, take}
-use Rattle.class_table.specs.Keys.{numbers}
-use Rattle.class_orders.proofs.keys_of.Given as goal
-
-abbrev pub invariant-loop-class : goal.invariant-loop-class
-invariant-loop-class l = l.keys.items ≡ numbers (take l.class-index l.classes)

@@ -1,5 +1,0 @@
-use Rattle.class_world.proofs.Claims.{no-nodes}
-use Rattle.eval_forms.proofs.begin.Goals as goal
-
-pub next_operand-requires-clause-values : goal.next_operand-requires-clause-values
-next_operand-requires-clause-values c = rw c.new.ensures.items (no-nodes _)

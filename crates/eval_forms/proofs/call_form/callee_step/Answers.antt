@@ -1,5 +1,0 @@
-use Rattle.class_world.proofs.Claims.{no-nodes}
-use Rattle.eval_forms.proofs.call_form.callee_step.Goals as goal
-
-pub next_argument-requires-clause-values : goal.next_argument-requires-clause-values
-next_argument-requires-clause-values c = rw c.new.ensures.items (no-nodes _)

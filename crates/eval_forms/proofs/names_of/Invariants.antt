@@ -1,5 +1,0 @@
-use Rattle.std.proofs.Common.{◌≡◌, ◌++◌, drop, map}
-use Rattle.eval_forms.proofs.names_of.Given as goal
-
-abbrev pub invariant-loop-entry : goal.invariant-loop-entry
-invariant-loop-entry l = l.names.items ++ map (λ e. e.0) (drop l.entry-index l.entries) ≡ map (λ e. e.0) l.entries

@@ -1,9 +1,0 @@
-use Rattle.std.proofs.Common.{sym, subst, ◌∙◌}
-use Rattle.class_world.specs.Sound.{AllHold, of_node_ref, of_option}
-use Rattle.eval_forms.proofs.Operands.{one-holds}
-use Rattle.eval_forms.proofs.words.type_step.Goals as goal
-
-pub type_object-requires : goal.type_object-requires
-type_object-requires c =
-    let w = c.args.world.now in
-    (subst (λ o. AllHold w (of_option of_node_ref o)) (sym c.one_of.ensures ∙ c.in-Some.is) (one-holds w c.args.values.now c.requires)).0

@@ -1,6 +1,0 @@
-use Rattle.serde_json.specs.View.{view}
-use Rattle.hierarchy_text.proofs.InOrder.{value-order}
-use Rattle.hierarchy_text.proofs.read.read_hierarchy.Goals as goal
-
-pub returns-clause-order : goal.returns-clause-order
-returns-clause-order c = value-order (view c.in_ok-value.value) c.read_value.result c.read_value.ensures.ok

@@ -1,9 +1,0 @@
-use Rattle.std.proofs.Common.{◌≡◌, drop}
-use Rattle.class_model.specs.Change.{breaks_precedence}
-use Rattle.mro_merge.specs.Lists.{rows}
-use Rattle.mro_merge.specs.Merge.{heads}
-use Rattle.mro_merge.proofs.laws.breaks_precedence.Given as goal
-
-abbrev pub invariant-loop-i : goal.invariant-loop-i
-invariant-loop-i l =
-    breaks_precedence (heads (rows (drop l.i l.lists))) (rows (drop l.i l.lists)) ≡ breaks_precedence (heads (rows l.lists)) (rows l.lists)

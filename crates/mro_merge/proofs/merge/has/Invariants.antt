@@ -1,7 +1,0 @@
-use Rattle.std.proofs.Common.{◌≡◌, drop}
-use Rattle.class_model.specs.Order.{has}
-use Rattle.mro_merge.specs.Lists.{numbers}
-use Rattle.mro_merge.proofs.merge.has.Given as goal
-
-abbrev pub invariant-loop-other : goal.invariant-loop-other
-invariant-loop-other l = has (numbers (drop l.other-index l.list)) l.class.0 ≡ has (numbers l.list) l.class.0

@@ -1,7 +1,0 @@
-use Rattle.std.proofs.Common.{◌≡◌, ◌++◌, map, take, drop}
-use Rattle.class_model.specs.Order.{without}
-use Rattle.mro_merge.specs.Lists.{rows}
-use Rattle.mro_merge.proofs.merge.strike.Given as goal
-
-abbrev pub invariant-loop-i : goal.invariant-loop-i
-invariant-loop-i l = rows l.lists.items ≡ map (without l.class.0) (take l.i (rows l.fn.lists.items)) ++ drop l.i (rows l.fn.lists.items)

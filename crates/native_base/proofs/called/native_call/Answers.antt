@@ -1,8 +1,0 @@
-use Rattle.std.proofs.Common.{ap, sym, ◌∙◌}
-use Rattle.class_world.specs.Reading.{bindings}
-use Rattle.native_base.specs.Called.{call_native}
-use Rattle.native_base.proofs.called.native_call.Goals as goal
-
-pub returns-clause-task : goal.returns-clause-task
-returns-clause-task c = λ t.
-    c.in_ok-task.ensures.task t ∙ ap (λ d. call_native c.args.native d c.args.f c.args.args.items (bindings t c.args.kw.items)) (sym (c.payload.ensures.reads t))

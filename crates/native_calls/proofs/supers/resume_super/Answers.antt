@@ -1,7 +1,0 @@
-use Rattle.native_calls.proofs.Steps.{super-resumes}
-use Rattle.native_calls.proofs.supers.resume_super.Goals as goal
-
-pub returns-clause-goes : goal.returns-clause-goes
-returns-clause-goes c =
-    let a = c.args in
-    super-resumes a.class a.object a.answer a.world.now c.bind_super.new.world c.in_ok-ended.ended c.in_ok-ended.ensures.goes

@@ -1,5 +1,0 @@
-use Rattle.native_calls.proofs.Lists.{rest-hold}
-use Rattle.native_calls.proofs.supers.super_attribute_by_name.Goals as goal
-
-pub name_in-requires : goal.name_in-requires
-name_in-requires c = c.in-Ok.ensures.node c.args.world.now (rest-hold c.args.world.now c.args.args.now c.requires)

@@ -1,0 +1,13 @@
+use Rattle.native_containers.proofs.Lemmas.{length, sym, ◌∙◌, remove, none, value, plain, list_changed, items_at, placed, place_at, fewer-by-one, items-changed, leads-to}
+use Rattle.std.proofs.Common.{◌-◌}
+use Rattle.native_containers.proofs.native_items.delete.take_in_place.Goals as goal
+
+pub returns-else-not-is_within_limit-clause-ends : goal.returns-else-not-is_within_limit-clause-ends
+returns-else-not-is_within_limit-clause-ends c =
+    let a = c.args in
+    let w = a.world.now in
+    let rs = c.items-count.result.now in
+    let i = c.in-Some.place in
+    items-changed (λ t u. placed u (place_at u (length (items_at u a.list)) a.index) (λ i. list_changed u a.list (remove (items_at u a.list) i))) w a.list rs c.items-count.ensures.same (λ rs. remove rs i) (value none)
+    (λ t. leads-to (plain t w) a.list a.index rs (c.items-count.ensures.same t) (λ rs i. remove rs i) i (c.in-Some.ensures.reads t))
+    (length rs - 1) (fewer-by-one rs i c.in-Some.ensures.within) c.take_item.new.self c.ends_none.result (sym c.is_within_limit.ensures ∙ c.if-not-is_within_limit.false) c.take_item.ensures.taken c.take_item.ensures.reads c.ends_none.ensures.ends

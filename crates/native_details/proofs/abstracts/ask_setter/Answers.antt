@@ -1,9 +1,0 @@
-use Rattle.std.proofs.Common.{[], ◌∷◌}
-use Rattle.class_world.proofs.Claims.{all-append}
-use Rattle.class_world.specs.Claims.{of_task}
-use Rattle.class_world.specs.Sound.{IsNode}
-use Rattle.native_details.proofs.abstracts.ask_setter.Goals as goal
-
-pub returns-in-Some-clause-safe : goal.returns-in-Some-clause-safe
-returns-in-Some-clause-safe c =
-    all-append c.args.world.now (of_task c.ask_whether.result) (IsNode c.or_false-getter.result ∷ []) c.ask_whether.ensures.holds (c.or_false-getter.ensures.node, tt)

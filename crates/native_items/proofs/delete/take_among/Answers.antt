@@ -1,9 +1,0 @@
-use Rattle.std.proofs.Common.{sym, subst}
-use Rattle.class_world.specs.Sound.{AreNodes, Holds}
-use Rattle.native_items.proofs.Ranges.{without-nodes}
-use Rattle.native_items.proofs.delete.take_among.Goals as goal
-
-pub change_list-requires-clause-items : goal.change_list-requires-clause-items
-change_list-requires-clause-items c =
-    let w = c.args.world.now in
-    subst (λ l. Holds w (AreNodes l)) (sym c.remove.ensures.items) (without-nodes w c.args.items.items c.requires.items c.in-Some.place)

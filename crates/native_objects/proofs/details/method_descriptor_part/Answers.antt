@@ -1,7 +1,0 @@
-use Rattle.native_objects.proofs.details.method_descriptor_part.Goals as goal
-
-pub returns-in-Doc-clause-holds : goal.returns-in-Doc-clause-holds
-returns-in-Doc-clause-holds c = rw c.in-MethodDescriptor.is (λ w h. c.doc_part.ensures.holds w h.1.1)
-
-pub returns-in-TextSignature-clause-holds : goal.returns-in-TextSignature-clause-holds
-returns-in-TextSignature-clause-holds c = rw c.in-MethodDescriptor.is (λ w h. c.signature_part.ensures.holds w h.1.0 h.1.1)

@@ -1,5 +1,0 @@
-use Rattle.class_world.proofs.DictChanges.{none-hold}
-use Rattle.native_objects.proofs.makers.new_dict.Goals as goal
-
-pub make_node-requires-clause-payload : goal.make_node-requires-clause-payload
-make_node-requires-clause-payload c = rw c.new-dict.ensures (none-hold _)

@@ -1,5 +1,0 @@
-use Rattle.class_world.proofs.Claims.{no-nodes}
-use Rattle.native_objects.proofs.makers.new_list.Goals as goal
-
-pub make_node-requires-clause-payload : goal.make_node-requires-clause-payload
-make_node-requires-clause-payload c = rw c.new-items.ensures.items (no-nodes _, tt)

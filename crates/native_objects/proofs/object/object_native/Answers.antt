@@ -1,5 +1,0 @@
-use Rattle.class_world.proofs.Growth.{grows-itself}
-use Rattle.native_objects.proofs.object.object_native.Goals as goal
-
-pub returns-in-Hash-clause-safe : goal.returns-in-Hash-clause-safe
-returns-in-Hash-clause-safe c = let w = c.args.world.now in (grows-itself w, c.object_hash.ensures.holds w)

@@ -1,6 +1,0 @@
-use Rattle.class_world.specs.Sound.{Holds}
-use Rattle.native_objects.proofs.property.with_part.Goals as goal
-
-pub text-requires : goal.text-requires
-unfolding Holds
-text-requires c = rw c.names.ensures c.requires.name

@@ -1,4 +1,0 @@
-use Rattle.native_objects.proofs.rebase.set_bases.Given as goal
-
-abbrev pub ghosts-rebased : goal.ghosts-rebased
-ghosts-rebased a = record { name = a.blank.name; parts = a.blank.parts }

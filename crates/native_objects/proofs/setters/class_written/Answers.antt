@@ -1,7 +1,0 @@
-use Rattle.class_world.proofs.Growth.{grows-itself}
-use Rattle.native_objects.proofs.setters.class_written.Goals as goal
-
-pub returns-in-Dict-clause-safe : goal.returns-in-Dict-clause-safe
-returns-in-Dict-clause-safe c =
-    let w = c.args.world.now in
-    (grows-itself w, c.set_class_dict.ensures.holds w)

@@ -1,6 +1,0 @@
-use Rattle.std.proofs.Common.{arith}
-use Rattle.std.proofs.lemmas.Int.{to_z-of_z, ints}
-use Rattle.native_parts.proofs.hash.hashed_on.Goals as goal
-
-pub returns : goal.returns
-returns c = search (arith, ints, to_z-of_z, c.number_hash.ensures)

@@ -1,5 +1,0 @@
-use Rattle.class_world.proofs.Claims.{no-nodes}
-use Rattle.native_parts.proofs.makers.begin_list.Goals as goal
-
-pub fill-ended-requires-clause-items : goal.fill-ended-requires-clause-items
-fill-ended-requires-clause-items c = rw c.new-items.ensures.items (no-nodes _)

@@ -1,9 +1,0 @@
-use Rattle.std.proofs.Common.{◌∙◌, ap, subst, sym, take_all}
-use Rattle.class_world.specs.Sound.{AreNodes, Holds}
-use Rattle.native_parts.specs.Texts.{flattened}
-use Rattle.native_parts.proofs.Contents.{flat-nodes}
-use Rattle.native_parts.proofs.take.flattened.Goals as goal
-
-pub returns-clause-holds : goal.returns-clause-holds
-returns-clause-holds c = λ w h k.
-    subst (λ rs. Holds w (AreNodes rs)) (sym (c.loop-entry.invariant ∙ ap flattened (take_all c.loop-entry.entry-index c.args.entries.now c.loop-entry-test.false))) (flat-nodes w c.args.entries.now h k)

@@ -1,6 +1,0 @@
-use Rattle.std.proofs.Common.{◌≡◌, take}
-use Rattle.native_parts.specs.Texts.{flattened}
-use Rattle.native_parts.proofs.take.flattened.Given as goal
-
-abbrev pub invariant-loop-entry : goal.invariant-loop-entry
-invariant-loop-entry l = l.parts.items ≡ flattened (take l.entry-index l.entries)

@@ -1,7 +1,0 @@
-use Rattle.std.proofs.Common.{string_bytes}
-use Rattle.class_world.specs.Reading.{Reading, plain}
-use Rattle.native_parts.proofs.Joined.{UpTo}
-use Rattle.native_parts.proofs.texts.container_text.Given as goal
-
-abbrev pub invariant-loop-i : goal.invariant-loop-i
-invariant-loop-i l = (t : Reading) → UpTo (plain t l.world) l.container l.texts (string_bytes l.text) l.i

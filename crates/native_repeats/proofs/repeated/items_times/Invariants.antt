@@ -1,9 +1,0 @@
-use Rattle.std.proofs.Common.{◌≡◌, ◌-◌, ◌≤◌}
-use Rattle.std.specs.List.{repeat}
-use Rattle.native_repeats.proofs.repeated.items_times.Given as goal
-
-abbrev pub invariant-loop : goal.invariant-loop
-invariant-loop l = record { below : l.counter ≤ l.times; items : l.all.items ≡ repeat l.counter l.items }
-
-abbrev pub decreases-loop : goal.decreases-loop
-decreases-loop l = l.times - l.counter

@@ -1,6 +1,0 @@
-use Rattle.std.proofs.Common.{◌≡◌, take, fold}
-use Rattle.native_texts.specs.Texts.{hashed_on}
-use Rattle.native_texts.proofs.of_bytes.hash_of.Given as goal
-
-abbrev pub invariant-loop-byte : goal.invariant-loop-byte
-invariant-loop-byte l = l.hash ≡ fold hashed_on 14695981039346656037 (take l.byte-index l.bytes)

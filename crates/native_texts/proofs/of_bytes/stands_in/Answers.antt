@@ -1,7 +1,0 @@
-use Rattle.std.proofs.lemmas.Str.Pattern.{contains_text}
-use Rattle.native_texts.proofs.Inside.{inside}
-use Rattle.native_texts.proofs.of_bytes.stands_in.Goals as goal
-
-pub returns : goal.returns
-returns c =
-    inside c.contains.result c.args.part.now c.args.text.now (contains_text c.contains.result c.args.part.now c.args.text.now c.contains.ensures.cases)

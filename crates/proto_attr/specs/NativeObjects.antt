@@ -1,0 +1,9 @@
+pub mod Takes
+pub mod Descriptors
+pub mod Makers
+pub mod Attributes
+pub mod Details
+pub mod DetailParts
+pub mod Getters
+pub mod Setters
+pub mod DetailSetters

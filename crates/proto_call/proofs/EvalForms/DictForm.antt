@@ -1,0 +1,260 @@
+-- Dicts whose keys and values are evaluated in order.
+use Rattle.proto_call.proofs.Below.{ℕ, zero, suc, true, false, cond, List, [], length, map, Some, None, Ok, Err, refl, sym, ap, ◌∙◌, subst, arith, slice_get, is_some, Result, IfOk, Vec, ltb-true, lt-ltb, slice_get_within, PyObjectRef, OutOfMemory, Raised as Fault, KeyType, Answer, Value, Form, Step, Ask, End, Text, Tree, TDict, KeyedTrees, no_keyed, keyed_of, entries_from, PlainWorld, DoEval, ToEval, Answered, Told, Asks, Ends, Row, fault, end, key_at, Held, of_pairs, Reading, Reads, form_tree, plain, ended_of, Holds, AllHold, IsNode, AreNodes, IsExpression, CanBeKeys, HasForm, held_key, of_form, expression-in, got-map, all-pushed, map-end, key_at-read, World, Steps, EvalKept, Key, Pairs, evaluate_pairs, make_dict, eval_say, answered, eval_stands, of_eval_kept, pairs_of, pairs_told, pairs, pairs_at, has_pair, IsOther, IsOwn, EndsRow, Continues, GoesOn, Resumes, operands}
+use Rattle.std.proofs.Common.{◌≡◌, ◌<◌, ◌≤◌, ◌∷◌, ◌++◌}
+use Rattle.py_node.specs.declared.payload.Form.TheVariants as form
+use Rattle.py_node.specs.declared.task.Task.TheVariants as task
+use Rattle.py_node.specs.declared.task.EvalTask.TheVariants as eval
+use Rattle.py_node.specs.Tree.{keyed}
+use Rattle.proto_call.specs.declared.eval_forms.EvalKept.TheVariants.{Value as OfKey}
+use Rattle.proto_call.specs.declared.eval_forms.Own.TheVariants as own
+use Rattle.proto_call.proofs.EvalForms.Operands.{append-nil, append-on, on-other}
+
+-- the pairs past the first so many
+abbrev past : ℕ → KeyedTrees → KeyedTrees
+past zero ps = ps
+past (suc n) no_keyed = no_keyed
+past (suc n) (keyed k e ps) = past n ps
+
+-- all keys are keys
+abbrev AreKnown : PlainWorld → Pairs → Type 0
+AreKnown w [] = Unit {0}
+AreKnown w (e ∷ es) = (is_some (key_at w e.0) ≡ true) × AreKnown w es
+
+trees : (ℕ → Tree) → List (ℕ × ℕ) → KeyedTrees
+trees tree ps = keyed_of (map (λ p. (tree p.0, tree p.1)) ps)
+
+pairs-form : (text : ℕ → Text) (tree : ℕ → Tree) (f : Form) → pairs_of (form_tree text tree f) ≡ keyed_of (map (λ p. (tree p.0, tree p.1)) (pairs f))
+pairs-form text tree (form.Dict ps) = refl
+pairs-form text tree _ = refl
+
+-- the pair at a place
+past-there : (tree : ℕ → Tree) (ps : List (ℕ × ℕ)) (n : ℕ) (p : ℕ × ℕ) → slice_get ps n ≡ Some p → past n (keyed_of (map (λ p. (tree p.0, tree p.1)) ps)) ≡ keyed (tree p.0) (tree p.1) (past (suc n) (keyed_of (map (λ p. (tree p.0, tree p.1)) ps)))
+past-there tree [] n p e = cc
+past-there tree (q ∷ ps) zero p e = let same : q ≡ p = cc in ap (λ (q : ℕ × ℕ). keyed (tree q.0) (tree q.1) (keyed_of (map (λ (p : ℕ × ℕ). (tree p.0, tree p.1)) ps))) same
+past-there tree (q ∷ ps) (suc n) p e = past-there tree ps n p e
+
+past-none : (tree : ℕ → Tree) (ps : List (ℕ × ℕ)) (n : ℕ) → slice_get ps n ≡ None → past n (keyed_of (map (λ p. (tree p.0, tree p.1)) ps)) ≡ no_keyed
+past-none tree [] zero e = refl
+past-none tree [] (suc n) e = refl
+past-none tree (q ∷ ps) zero e = cc
+past-none tree (q ∷ ps) (suc n) e = past-none tree ps n e
+
+abbrev count : KeyedTrees → ℕ
+count no_keyed = 0
+count (keyed k e ps) = suc (count ps)
+
+count-trees : (tree : ℕ → Tree) (ps : List (ℕ × ℕ)) → count (keyed_of (map (λ p. (tree p.0, tree p.1)) ps)) ≡ length ps
+count-trees tree [] = refl
+count-trees tree (p ∷ ps) = ap suc (count-trees tree ps)
+
+-- pairs whose keys are keys are gone past
+gone-past : (w : PlainWorld) (ps : KeyedTrees) (go : Pairs → Row) (es : Pairs) (more : Told) → AreKnown w es → length es ≤ count ps → evaluate_pairs w ps go (pairs_told es ++ more) ≡ evaluate_pairs w (past (length es) ps) (λ fs. go (es ++ fs)) more
+gone-past w ps go [] more k l = refl
+gone-past w no_keyed go (e ∷ es) more k l = absurd (omega arith)
+gone-past w (keyed a b ps) go (e ∷ es) more k l =
+    ap (λ t. cond t (evaluate_pairs w ps (λ fs. go (e ∷ fs))) (end w (fault KeyType)) (pairs_told es ++ more)) k.0
+    ∙ gone-past w ps (λ fs. go (e ∷ fs)) es more k.1 (omega arith)
+
+-- the row of a dict, past the pairs that have values
+row-past : (u : PlainWorld) (t : Reading) (w : World) (e : ℕ) (f : Form) (es : Pairs) (more : Told) → Reads t w → slice_get w.forms e ≡ Some f → length es ≤ length (pairs f) → AreKnown u es
+    → eval_say u (DoEval (TDict (pairs_of (t.tree e)))) (pairs_told es ++ more) ≡ evaluate_pairs u (past (length es) (keyed_of (map (λ p. (t.tree p.0, t.tree p.1)) (pairs f)))) (λ fs. make_dict u (entries_from u (es ++ fs))) more
+unfolding eval_say
+row-past u t w e f es more r h l k =
+    let all = ap pairs_of (r.trees e f h) ∙ pairs-form t.text t.tree f in
+    let many = count-trees t.tree (pairs f) in
+    ap (λ ps. evaluate_pairs u ps (λ fs. make_dict u (entries_from u fs)) (pairs_told es ++ more)) all
+    ∙ gone-past u (keyed_of (map (λ p. (t.tree p.0, t.tree p.1)) (pairs f))) (λ fs. make_dict u (entries_from u fs)) es more k (omega (arith, l, many))
+
+known-read : (t : Reading) (w : Held) (es : Pairs) → Holds w (CanBeKeys (map (λ e. e.0) es)) → AreKnown (plain t w) es
+unfolding Holds
+known-read t w [] h = tt
+known-read t w (e ∷ es) h = (ap is_some (key_at-read t w e.0) ∙ h 0 e.0 (omega arith), known-read t w es (λ i d l. h (suc i) d (omega arith)))
+
+within : {A : Type 0} (xs : List A) (n : ℕ) (x : A) → slice_get xs n ≡ Some x → n ≤ length xs
+within xs n x e = let l = slice_get_within xs n x e in omega (arith, l)
+
+-- at a pair
+module _ (w : World) (e : ℕ) (f : Form) (es : Vec (PyObjectRef × PyObjectRef)) (p : ℕ × ℕ) (h : slice_get w.forms e ≡ Some f) (k : slice_get (pairs f) (length es.items) ≡ Some p) (c : Holds w (CanBeKeys (map (λ e. e.0) es.items))) where
+  abbrev rest : Reading → KeyedTrees
+  rest t = past (suc (length es.items)) (keyed_of (map (λ p. (t.tree p.0, t.tree p.1)) (pairs f)))
+
+  row-pair : (t : Reading) (more : Told) → Reads t w
+      → eval_say (plain t w) (DoEval (TDict (pairs_of (t.tree e)))) (pairs_told es.items ++ more) ≡ evaluate_pairs (plain t w) (keyed (t.tree p.0) (t.tree p.1) (rest t)) (λ fs. make_dict (plain t w) (entries_from (plain t w) (es.items ++ fs))) more
+  row-pair t more r =
+      row-past (plain t w) t w e f es.items more r h (within (pairs f) (length es.items) p k) (known-read t w es.items c)
+      ∙ ap (λ ps. evaluate_pairs (plain t w) ps (λ fs. make_dict (plain t w) (entries_from (plain t w) (es.items ++ fs))) more) (past-there t.tree (pairs f) (length es.items) p k)
+
+  -- the next key is evaluated
+  pub key-asked : GoesOn (Key e es) w w (Ask (task.Eval (eval.Eval p.0)) (Key e es))
+  key-asked = λ t r. (r, step t r)
+    where
+      step : (t : Reading) → Reads t w
+          → Steps eval_say (eval_stands t) t (DoEval (TDict (pairs_of (t.tree e)))) (pairs_told es.items) (eval_say (plain t w) (DoEval (TDict (pairs_of (t.tree e)))) (pairs_told es.items)) (Ask (task.Eval (eval.Eval p.0)) (Key e es)) w
+      step t r =
+          let job = DoEval (TDict (pairs_of (t.tree e))) in
+          let told = pairs_told es.items in
+          let asks : eval_say (plain t w) job told ≡ Asks (plain t w) [] (ToEval (DoEval (t.tree p.0))) =
+          ap (eval_say (plain t w) job) (sym (append-nil told)) ∙ row-pair t [] r in
+          subst (λ said. Steps eval_say (eval_stands t) t job told said (Ask (task.Eval (eval.Eval p.0)) (Key e es)) w) (sym asks) (refl, refl, record { says = λ u s more. ap (λ l. eval_say u job (l ++ Answered s ∷ more)) (append-nil told) })
+
+  -- the key has a value: what stands under it is evaluated
+  pub value-asked : (v : PyObjectRef) → Resumes (Key e es) (Ok (Value v)) w w (Ask (task.Eval (eval.Eval p.1)) (OfKey e es v))
+  value-asked v = λ t r. (r, step t r)
+    where
+      step : (t : Reading) → Reads t w
+          → Steps eval_say (eval_stands t) t (DoEval (TDict (pairs_of (t.tree e)))) (pairs_told es.items ++ answered v ∷ []) (eval_say (plain t w) (DoEval (TDict (pairs_of (t.tree e)))) (pairs_told es.items ++ answered v ∷ [])) (Ask (task.Eval (eval.Eval p.1)) (OfKey e es v)) w
+      step t r =
+          let job = DoEval (TDict (pairs_of (t.tree e))) in
+          let told = pairs_told es.items ++ answered v ∷ [] in
+          let asks : eval_say (plain t w) job told ≡ Asks (plain t w) [] (ToEval (DoEval (t.tree p.1))) =
+          row-pair t (answered v ∷ []) r in
+          subst (λ said. Steps eval_say (eval_stands t) t job told said (Ask (task.Eval (eval.Eval p.1)) (OfKey e es v)) w) (sym asks) (refl, refl, record { says = λ u s more. ap (λ l. eval_say u job (l ++ Answered s ∷ more)) (append-nil told) })
+
+  -- what is answered no object ends the dict so, in the place of a key
+  key-other : (s : Result Answer Fault) → IsOther s → Resumes (Key e es) s w w (End s)
+  key-other s o = λ t r.
+      let job = DoEval (TDict (pairs_of (t.tree e))) in
+      let told = pairs_told es.items ++ Answered (ended_of s) ∷ [] in
+      let ends : eval_say (plain t w) job told ≡ Ends (plain t w) (ended_of s) =
+      row-pair t (Answered (ended_of s) ∷ []) r ∙ on-other (plain t w) s _ [] o in
+      (r, subst (λ said. Steps eval_say (eval_stands t) t job told said (End s) w) (sym ends) (refl, refl))
+
+  -- and in that of a value
+  value-other : (v : PyObjectRef) (s : Result Answer Fault) → IsOther s → Resumes (OfKey e es v) s w w (End s)
+  value-other v s o = λ t r.
+      let job = DoEval (TDict (pairs_of (t.tree e))) in
+      let told = (pairs_told es.items ++ answered v ∷ []) ++ Answered (ended_of s) ∷ [] in
+      let ends : eval_say (plain t w) job told ≡ Ends (plain t w) (ended_of s) =
+      ap (eval_say (plain t w) job) (append-on (pairs_told es.items) (answered v ∷ []) (Answered (ended_of s) ∷ [])) ∙ row-pair t (answered v ∷ Answered (ended_of s) ∷ []) r ∙ on-other (plain t w) s _ [] o in
+      (r, subst (λ said. Steps eval_say (eval_stands t) t job told said (End s) w) (sym ends) (refl, refl))
+
+  -- what is no key is refused
+  key-refused : (v u : PyObjectRef) → ((t : Reading) → is_some (key_at (plain t w) v) ≡ false) → Resumes (OfKey e es v) (Ok (Value u)) w w (End (fault KeyType))
+  key-refused v u n = λ t r.
+      let job = DoEval (TDict (pairs_of (t.tree e))) in
+      let told = (pairs_told es.items ++ answered v ∷ []) ++ answered u ∷ [] in
+      let ends : eval_say (plain t w) job told ≡ Ends (plain t w) (fault KeyType) =
+      ap (eval_say (plain t w) job) (append-on (pairs_told es.items) (answered v ∷ []) (answered u ∷ []))
+      ∙ row-pair t (answered v ∷ answered u ∷ []) r
+      ∙ ap (λ b. cond b (evaluate_pairs (plain t w) (rest t) (λ fs. make_dict (plain t w) (entries_from (plain t w) (es.items ++ (v, u) ∷ fs)))) (end (plain t w) (fault KeyType)) []) (n t) in
+      (r, subst (λ said. Steps eval_say (eval_stands t) t job told said (End (fault KeyType)) w) (sym ends) (refl, refl))
+
+-- a dict that waits has the pair that it waits for
+pair-there : (ps : List (ℕ × ℕ)) (n : ℕ) → n < length ps → (p : ℕ × ℕ) × (slice_get ps n ≡ Some p)
+pair-there [] n h = absurd (omega arith)
+pair-there (p ∷ ps) zero h = (p, refl)
+pair-there (p ∷ ps) (suc n) h = pair-there ps n (omega arith)
+
+pub key-ends : (w : World) (e : ℕ) (es : Vec (PyObjectRef × PyObjectRef)) (s : Result Answer Fault) → IsOther s → AllHold w (of_eval_kept (Key e es)) → Resumes (Key e es) s w w (End s)
+unfolding Holds
+key-ends w e es s o h =
+    let f = h.1.0.0 in
+    let p = pair-there (pairs f) (length es.items) (ltb-true (length es.items) (length (pairs f)) h.1.0.2) in
+    key-other w e f es p.0 h.1.0.1 p.1 h.1.1.1.1.0 s o
+
+pub value-ends : (w : World) (e : ℕ) (es : Vec (PyObjectRef × PyObjectRef)) (k : PyObjectRef) (s : Result Answer Fault) → IsOther s → AllHold w (of_eval_kept (OfKey e es k)) → Resumes (OfKey e es k) s w w (End s)
+unfolding Holds
+value-ends w e es k s o h =
+    let f = h.1.0.0 in
+    let p = pair-there (pairs f) (length es.items) (ltb-true (length es.items) (length (pairs f)) h.1.0.2) in
+    value-other w e f es p.0 h.1.0.1 p.1 h.1.1.1.1.1.0 k s o
+
+pub refused-ends : (w : World) (e : ℕ) (es : Vec (PyObjectRef × PyObjectRef)) (k v : PyObjectRef) → ((t : Reading) → is_some (key_at (plain t w) k) ≡ false) → AllHold w (of_eval_kept (OfKey e es k)) → Resumes (OfKey e es k) (Ok (Value v)) w w (End (fault KeyType))
+unfolding Holds
+refused-ends w e es k v n h =
+    let f = h.1.0.0 in
+    let p = pair-there (pairs f) (length es.items) (ltb-true (length es.items) (length (pairs f)) h.1.0.2) in
+    key-refused w e f es p.0 h.1.0.1 p.1 h.1.1.1.1.1.0 k v n
+
+told-pushed : (es : Pairs) (k v : PyObjectRef) → (pairs_told es ++ answered k ∷ []) ++ answered v ∷ [] ≡ pairs_told (es ++ (k, v) ∷ [])
+told-pushed [] k v = refl
+told-pushed (e ∷ es) k v = ap (λ l. answered e.0 ∷ answered e.1 ∷ l) (told-pushed es k v)
+
+-- a pair more
+pub pair-found : (w new : World) (e : ℕ) (es more : Vec (PyObjectRef × PyObjectRef)) (k v : PyObjectRef) (step : Step EvalKept) → more.items ≡ es.items ++ (k, v) ∷ [] → GoesOn (Key e more) w new step → Resumes (OfKey e es k) (Ok (Value v)) w new step
+pair-found w new e es more k v step q h = λ t r.
+    let same = ap pairs_told q ∙ sym (told-pushed es.items k v) in
+    let here = h t r in
+    (here.0, subst (λ told. Steps eval_say (eval_stands t) t (DoEval (TDict (pairs_of (t.tree e)))) told (eval_say (plain t w) (DoEval (TDict (pairs_of (t.tree e)))) told) step new) same here.1)
+
+-- with the values of all pairs, the dict is made
+pub dict-made : (w new : World) (e : ℕ) (f : Form) (es : Vec (PyObjectRef × PyObjectRef)) (step : Step EvalKept) → slice_get w.forms e ≡ Some f → slice_get (pairs f) (length es.items) ≡ None → length es.items ≤ length (pairs_at (slice_get w.forms e)) → Holds w (CanBeKeys (map (λ e. e.0) es.items))
+    → EndsRow (λ t u. make_dict u (entries_from u es.items)) w new step → GoesOn (Key e es) w new step
+dict-made w new e f es (Ask asked kept) h n l c k = absurd k
+dict-made w new e f es (End s) h n l c k = λ t r.
+    let here = k t r in
+    let job = DoEval (TDict (pairs_of (t.tree e))) in
+    let told = pairs_told es.items in
+    let long = ap (λ o. length (pairs_at o)) h in
+    let ends : eval_say (plain t w) job told ≡ Ends (plain t new) (ended_of s) =
+    ap (eval_say (plain t w) job) (sym (append-nil told))
+    ∙ row-past (plain t w) t w e f es.items [] here.0 h (omega (arith, long, l)) (known-read t w es.items c)
+    ∙ ap (λ ps. evaluate_pairs (plain t w) ps (λ fs. make_dict (plain t w) (entries_from (plain t w) (es.items ++ fs))) []) (past-none t.tree (pairs f) (length es.items) n)
+    ∙ ap (λ fs. make_dict (plain t w) (entries_from (plain t w) fs) []) (append-nil es.items)
+    ∙ here.1 in
+    (here.0, subst (λ said. Steps eval_say (eval_stands t) t job told said (End s) new) (sym ends) (refl, refl))
+
+-- the parts of a pair are expressions
+pub part-holds : (w : Held) (f : Form) (n : ℕ) (p : ℕ × ℕ) → AllHold w (of_form f) → slice_get (pairs f) n ≡ Some p → Holds w (IsExpression p.0) × Holds w (IsExpression p.1)
+part-holds w (form.Dict ps) n p h k =
+    (expression-in w (map (λ p. p.0) ps.items) n p.0 h.0 (got-map (λ p. p.0) ps.items n p k), expression-in w (map (λ p. p.1) ps.items) n p.1 h.1.0 (got-map (λ p. p.1) ps.items n p k))
+part-holds w _ n p h k = cc
+
+pub has-pair : (w : Held) (e n : ℕ) (f : Form) (p : ℕ × ℕ) → slice_get w.forms e ≡ Some f → slice_get (pairs f) n ≡ Some p → Holds w (HasForm e (has_pair n))
+unfolding Holds
+has-pair w e n f p h k = (f, h, lt-ltb n (length (pairs f)) (slice_get_within (pairs f) n p k))
+
+-- there is a pair at the place
+pub below-pairs : (w : Held) (e n : ℕ) (f : Form) → slice_get w.forms e ≡ Some f → Holds w (HasForm e (has_pair n)) → n < length (pairs f)
+unfolding Holds
+below-pairs w e n f h k =
+    let same : k.0 ≡ f = cc (h, k.1) in
+    subst (λ f. n < length (pairs f)) same (ltb-true n (length (pairs k.0)) k.2)
+
+pub fits-more : (w : Held) (e n : ℕ) → Holds w (HasForm e (has_pair n)) → n < length (pairs_at (slice_get w.forms e))
+unfolding Holds
+fits-more w e n k = subst (λ o. n < length (pairs_at o)) (sym k.1) (ltb-true n (length (pairs k.0)) k.2)
+
+pub pairs-pushed : (w : Held) (es : Pairs) (k v : PyObjectRef) → AllHold w (of_pairs es) → Holds w (IsNode k) → Holds w (IsNode v) → Holds w (CanBeKeys (k ∷ [])) → AllHold w (of_pairs (es ++ (k, v) ∷ []))
+unfolding Holds
+pairs-pushed w es k v h a b c =
+    let keys = map-end (λ (e : PyObjectRef × PyObjectRef). e.0) es (k, v) in
+    let values = map-end (λ (e : PyObjectRef × PyObjectRef). e.1) es (k, v) in (
+      subst (λ rs. Holds w (AreNodes rs)) (sym keys) (all-pushed (λ r. r.0 < length w.nodes) (map (λ e. e.0) es) k h.0 a),
+      (
+        subst (λ rs. Holds w (AreNodes rs)) (sym values) (all-pushed (λ r. r.0 < length w.nodes) (map (λ e. e.1) es) v h.1.0 b),
+        (subst (λ rs. Holds w (CanBeKeys rs)) (sym keys) (all-pushed (λ r. is_some (held_key w.nodes r) ≡ true) (map (λ e. e.0) es) k h.1.1.0 (c 0 k (omega arith))), tt),
+      ),
+    )
+
+pub no-pairs : (w : Held) → AllHold w (of_pairs [])
+unfolding Holds
+no-pairs w = (λ i d l. absurd (omega arith), (λ i d l. absurd (omega arith), (λ i d l. absurd (omega arith), tt)))
+
+dict-tree : (text : ℕ → Text) (tree : ℕ → Tree) (f : Form) → IsOwn own.Dict f → TDict (pairs_of (form_tree text tree f)) ≡ form_tree text tree f
+dict-tree text tree (form.Dict ps) o = refl
+dict-tree text tree _ o = absurd o
+
+dict-alone : (f : Form) (vs : List PyObjectRef) → IsOwn own.Dict f → length (operands f) ≡ length vs → vs ≡ []
+dict-alone (form.Dict ps) [] o l = refl
+dict-alone (form.Dict ps) (v ∷ vs) o l = absurd (omega (arith, l))
+dict-alone _ vs o l = absurd o
+
+-- a dict begins with its first key
+pub own-dict : (w new : World) (e : ℕ) (f : Form) (vs : List PyObjectRef) (es : Vec (PyObjectRef × PyObjectRef)) (r : Result (Step EvalKept) OutOfMemory) → slice_get w.forms e ≡ Some f → length (operands f) ≡ length vs → IsOwn own.Dict f → es.items ≡ []
+    → IfOk r (λ step. GoesOn (Key e es) w new step) → IfOk r (λ step. Continues e vs w new step)
+own-dict w new e f vs es (Ok step) h l o n k = λ t r.
+    let here = k t r in
+    let first = here.0.trees e f h in
+    let tree = ap (λ x. TDict (pairs_of x)) first ∙ dict-tree t.text t.tree f o ∙ sym first in
+    let told = ap pairs_told n ∙ ap (map answered) (sym (dict-alone f vs o l)) in
+    let point : (TDict (pairs_of (t.tree e)), pairs_told es.items) ≡ (t.tree e, map answered vs) = λ i. (tree i, told i) in
+    (here.0, subst (λ (p : Tree × Told). Steps eval_say (eval_stands t) t (DoEval p.0) p.1 (eval_say (plain t w) (DoEval p.0) p.1) step new) point here.1)
+own-dict w new e f vs es (Err out) h l o n k = tt
+
+-- a dict that is made once its keys are found, in a world that says the same as before
+pub made-after : (old mid new : World) (ps es : Pairs) (step : Step EvalKept) → ((t : Reading) → plain t mid ≡ plain t old) → ((t : Reading) → Reads t mid → Reads t old) → ((t : Reading) → es ≡ entries_from (plain t old) ps) → EndsRow (λ t u. make_dict u es) mid new step → EndsRow (λ t u. make_dict u (entries_from u ps)) old new step
+made-after old mid new ps es (Ask asked kept) same reads is h = absurd h
+made-after old mid new ps es (End r) same reads is h = λ t q.
+    let here = h t q in
+    (reads t here.0, (λ i. make_dict (sym (same t) i) (sym (is t) i) []) ∙ here.1)

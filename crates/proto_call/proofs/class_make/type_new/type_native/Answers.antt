@@ -1,0 +1,27 @@
+use Rattle.py_node.specs.declared.entry.TypeNative.TheVariants as type
+use Rattle.proto_call.proofs.Lemmas.{types-begin}
+use Rattle.proto_call.proofs.class_make.type_new.type_native.Goals as goal
+
+pub returns-in-New-clause-goes : goal.returns-in-New-clause-goes
+returns-in-New-clause-goes c =
+    types-begin c.args.native type.New c.args.args.items c.args.kw.items c.args.world.now c.type_new.new.world c.type_new.result c.in-New.is c.type_new.ensures.goes
+
+pub returns-in-GetAttribute-clause-goes : goal.returns-in-GetAttribute-clause-goes
+returns-in-GetAttribute-clause-goes c =
+    let f = c.type_get_attribute in
+    types-begin c.args.native type.GetAttribute c.args.args.items c.args.kw.items c.args.world.now f.new.world f.result c.in-GetAttribute.is f.ensures.goes
+
+pub returns-in-SetAttr-clause-goes : goal.returns-in-SetAttr-clause-goes
+returns-in-SetAttr-clause-goes c =
+    let f = c.type_set_attr in
+    types-begin c.args.native type.SetAttr c.args.args.items c.args.kw.items c.args.world.now f.new.world f.result c.in-SetAttr.is f.ensures.goes
+
+pub returns-in-DelAttr-clause-goes : goal.returns-in-DelAttr-clause-goes
+returns-in-DelAttr-clause-goes c =
+    let f = c.type_del_attr in
+    types-begin c.args.native type.DelAttr c.args.args.items c.args.kw.items c.args.world.now f.new.world f.result c.in-DelAttr.is f.ensures.goes
+
+pub returns-in-Call-clause-goes : goal.returns-in-Call-clause-goes
+returns-in-Call-clause-goes c =
+    let f = c.type_call in
+    types-begin c.args.native type.Call c.args.args.items c.args.kw.items c.args.world.now f.new.world f.result c.in-Call.is f.ensures.goes

@@ -1,9 +1,0 @@
-use Rattle.plain_machine.specs.World.{datum_at}
-use Rattle.proto_descr.specs.Properties.{property_get}
-use Rattle.proto_descr.proofs.Steps.{passed-starts}
-use Rattle.proto_descr.proofs.property.get_of_property.Goals as goal
-
-pub returns-clause-goes : goal.returns-clause-goes
-returns-clause-goes c =
-    let a = c.args in
-    rw c.passed.ensures.step (passed-starts a.m a.o a.class (λ t w. property_get w (datum_at w a.m) a.m a.o) a.world.now a.world.now c.in_ok-step.step c.in_ok-step.ensures.steps)

@@ -1,5 +1,0 @@
-use Rattle.class_world.proofs.Growth.{grows-itself}
-use Rattle.proto_descr.proofs.resume.Goals as goal
-
-pub returns-in-Done-clause-safe : goal.returns-in-Done-clause-safe
-returns-in-Done-clause-safe c = (grows-itself c.args.world.now, c.done.ensures.holds c.args.world.now)

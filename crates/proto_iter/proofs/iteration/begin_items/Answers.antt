@@ -1,5 +1,0 @@
-use Rattle.class_world.proofs.Claims.{no-nodes}
-use Rattle.proto_iter.proofs.iteration.begin_items.Goals as goal
-
-pub returns-clause-safe : goal.returns-clause-safe
-returns-clause-safe c = (c.requires, (c.requires, (rw c.new-items.ensures.items (no-nodes c.args.world.now), tt)))

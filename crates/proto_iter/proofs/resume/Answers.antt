@@ -1,5 +1,0 @@
-use Rattle.class_world.proofs.Growth.{grows-itself}
-use Rattle.proto_iter.proofs.resume.Goals as goal
-
-pub returns-in-AfterNext-clause-safe : goal.returns-in-AfterNext-clause-safe
-returns-in-AfterNext-clause-safe c = (grows-itself c.args.world.now, c.next_given.ensures.safe c.args.world.now c.requires.answer)

@@ -1,8 +1,0 @@
-use Rattle.proto_iter.specs.declared.IterKept.TheVariants.{Equal}
-use Rattle.proto_iter.proofs.At.{ends-same}
-use Rattle.proto_iter.proofs.Search.{ends-untrue}
-use Rattle.proto_iter.proofs.seek.equal_given.Goals as goal
-
-pub returns-in-Err-clause-goes : goal.returns-in-Err-clause-goes
-returns-in-Err-clause-goes c = λ w.
-    ends-same (Equal c.args.seeking) c.args.answer c.in-Err.other w c.in-Err.ensures.same (ends-untrue c.args.seeking c.args.answer w c.in-Err.ensures.other)

@@ -1,6 +1,0 @@
-use Rattle.class_world.proofs.Claims.{no-nodes}
-use Rattle.proto_number.proofs.asked.special.Goals as goal
-
-pub returns-clause-holds : goal.returns-clause-holds
-returns-clause-holds c =
-    (c.requires, (c.known.ensures.holds, (rw c.new-args.ensures.items (no-nodes c.args.world.now), rw c.new-kw.ensures.items tt)))

@@ -1,0 +1,80 @@
+//! The natives of None and NotImplemented.
+
+ghost use Rattle.proto_ops.specs.Below.{IfOk, Err, IfSome, IfNone, PlainWorld, Said, Ends, Reading, bindings, AreNodes, Holds, EndsAs, LeavesEnd};
+ghost use Rattle.std.specs.Prelude.{◌≡◌};
+ghost use Rattle.proto_ops.specs.NativeNumbers.Say.{fixed_first, fixed_of, fixed_say, with_fixed};
+
+use class_world::takes::one;
+use class_world::{Fixed, World};
+use py_node::{Answer, Cause, FixedNative, OutOfMemory, PyObjectRef, PyStrInterned, Raised};
+use row_kit::give::new_word;
+
+/// A native of None or NotImplemented.
+pub fn fixed_native(
+    world: &mut World,
+    native: FixedNative,
+    args: &[PyObjectRef],
+    kw: &[(PyStrInterned, PyObjectRef)],
+) -> Result<Result<Answer, Raised>, OutOfMemory>
+    ensures ends { IfOk result (λ r. EndsAs (λ t u. fixed_say u native args.now (bindings t kw.now))
+        world.old world.new r) }
+    ensures safe { LeavesEnd world.old world.new result }
+{
+    if let Some(raised) = refusal(native, args, kw) {
+        return Ok(Err(raised));
+    }
+    match native {
+        FixedNative::NoneRepr => new_word(world, "None"),
+        FixedNative::NoneBoolean => Ok(Ok(Answer::Value(world.truth(false)))),
+        FixedNative::NotImplementedRepr => new_word(world, "NotImplemented"),
+    }
+}
+
+// Why the arguments are refused: just the native's own object is wanted.
+fn refusal(
+    native: FixedNative,
+    args: &[PyObjectRef],
+    kw: &[(PyStrInterned, PyObjectRef)],
+) -> Option<Raised>
+    ensures taken { IfNone result ((t : Reading) (w : PlainWorld) (go : Said) →
+        with_fixed w (fixed_of native) args.now (bindings t kw.now) go ≡ go) }
+    ensures refused { IfSome result (λ x. (t : Reading) (w : PlainWorld) (go : Said) →
+        with_fixed w (fixed_of native) args.now (bindings t kw.now) go ≡ Ends w (Err x)) }
+{
+    if let Some(raised) = other_object(native, args) {
+        return Some(raised);
+    }
+    match one(args, kw) {
+        Err(raised) => Some(raised),
+        Ok(_) => None,
+    }
+}
+
+// Why the first argument is refused: it must be the native's own object.
+fn other_object(native: FixedNative, args: &[PyObjectRef]) -> Option<Raised>
+    ensures taken { IfNone result ((w : PlainWorld) (go : Said) →
+        fixed_first w (fixed_of native) args.now go ≡ go) }
+    ensures refused { IfSome result (λ x. (w : PlainWorld) (go : Said) →
+        fixed_first w (fixed_of native) args.now go ≡ Ends w (Err x)) }
+{
+    match args {
+        [] => Some(Raised::new(Cause::ArgCount)),
+        [o, ..] => {
+            if o.0 == own_object(native).0 {
+                None
+            } else {
+                Some(Raised::new(Cause::SelfType))
+            }
+        }
+    }
+}
+
+// The object that a native is for.
+fn own_object(native: FixedNative) -> PyObjectRef
+    ensures { result.0 ≡ fixed_of native }
+{
+    match native {
+        FixedNative::NoneRepr | FixedNative::NoneBoolean => Fixed::None.node(),
+        FixedNative::NotImplementedRepr => Fixed::NotImplemented.node(),
+    }
+}

@@ -1,0 +1,59 @@
+//! The natives of one number.
+
+ghost use Rattle.proto_ops.specs.Below.{IfOk, bindings, AreNodes, Holds, IsNode, EndsAs, LeavesEnd, as_int};
+ghost use Rattle.proto_ops.specs.NativeNumbers.Say.{number_by, number_say};
+
+use crate::native_numbers::reckon::{absolute, inverted, negated};
+use class_world::World;
+use py_node::{Answer, NumberNative, OutOfMemory, PyObjectRef, PyStrInterned, Raised};
+use row_kit::give::{new_int, new_text, new_word};
+use row_kit::int_values::{as_int, number_hash};
+use row_kit::take::lone_number;
+
+/// A native of one number.
+pub fn number_native(
+    world: &mut World,
+    native: NumberNative,
+    args: &[PyObjectRef],
+    kw: &[(PyStrInterned, PyObjectRef)],
+) -> Result<Result<Answer, Raised>, OutOfMemory>
+    requires { Holds world.old (AreNodes args.now) }
+    ensures ends { IfOk result (λ r. EndsAs (λ t u. number_say u native args.now (bindings t kw.now))
+        world.old world.new r) }
+    ensures safe { LeavesEnd world.old world.new result }
+{
+    match lone_number(world, args, kw) {
+        Err(raised) => Ok(Err(raised)),
+        Ok((o, z)) => number_by(world, native, o, z),
+    }
+}
+
+// What a native does with an object that holds a number.
+fn number_by(
+    world: &mut World,
+    native: NumberNative,
+    o: PyObjectRef,
+    z: i128,
+) -> Result<Result<Answer, Raised>, OutOfMemory>
+    requires { Holds world.old (IsNode o) }
+    ensures ends { IfOk result (λ r. EndsAs (λ t u. number_by u native o z) world.old world.new r) }
+    ensures safe { LeavesEnd world.old world.new result }
+{
+    match native {
+        NumberNative::Repr => {
+            let text = format!(in world.alloc(); "{z}")?;
+            new_text(world, text)
+        }
+        NumberNative::Hash => Ok(Ok(Answer::Number(number_hash(z)))),
+        NumberNative::Negative => new_int(world, negated(z)),
+        NumberNative::Positive => as_int(world, o, z),
+        NumberNative::Absolute => new_int(world, absolute(z)),
+        NumberNative::Invert => new_int(world, Ok(inverted(z))),
+        NumberNative::Boolean => Ok(Ok(Answer::Value(world.truth(z != 0)))),
+        NumberNative::Int => as_int(world, o, z),
+        NumberNative::Index => as_int(world, o, z),
+        NumberNative::Truncate => as_int(world, o, z),
+        NumberNative::BooleanRepr if z != 0 => new_word(world, "True"),
+        NumberNative::BooleanRepr => new_word(world, "False"),
+    }
+}

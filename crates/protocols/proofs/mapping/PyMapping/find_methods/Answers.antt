@@ -1,5 +1,0 @@
-use Rattle.protocols.proofs.Read.{mappings_read}
-use Rattle.protocols.proofs.mapping.PyMapping.find_methods.Goals as goal
-
-pub returns : goal.returns
-returns c = λ t r. mappings_read _ _ (c.slot.ensures t r) (c.slot-2.ensures t r) (c.slot-3.ensures t r)

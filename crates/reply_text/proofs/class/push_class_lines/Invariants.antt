@@ -1,8 +1,0 @@
-use Rattle.std.proofs.Common.{◌≡◌, ◌++◌, take, map}
-use Rattle.std.specs.List.{flat_map}
-use Rattle.plain_machine.specs.ClassLines.{slot_word}
-use Rattle.reply_text.proofs.class.push_class_lines.Given as goal
-
-abbrev pub invariant-loop-slot : goal.invariant-loop-slot
-invariant-loop-slot l =
-    l.out.items ≡ l.initial.out.items ++ flat_map slot_word (map (λ s. s.now) (take l.slot-index l.slots))

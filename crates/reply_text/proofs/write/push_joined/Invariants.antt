@@ -1,8 +1,0 @@
-use Rattle.std.proofs.Common.{◌≡◌, ◌++◌, take, map}
-use Rattle.std.specs.Prelude.{codes, string_bytes}
-use Rattle.std.specs.List.{flat_map}
-use Rattle.reply_text.proofs.write.push_joined.Given as goal
-
-abbrev pub invariant-loop-text : goal.invariant-loop-text
-invariant-loop-text l =
-    l.out.items ≡ l.initial.out.items ++ flat_map (λ next. codes ", " ++ next) (map (λ s. string_bytes s) (take l.text-index l.rest))

@@ -1,7 +1,0 @@
-use Rattle.std.proofs.Common.{◌≡◌, take, map}
-use Rattle.py_node.specs.Replies.{reply_of}
-use Rattle.plain_machine.specs.Lines.{replies_text}
-use Rattle.reply_text.proofs.write.write_replies.Given as goal
-
-abbrev pub invariant-loop-reply : goal.invariant-loop-reply
-invariant-loop-reply l = l.out.items ≡ replies_text (map reply_of (take l.reply-index l.replies))

@@ -1,9 +1,0 @@
-use Rattle.std.proofs.Common.{◌≡◌, ◌++◌, take, map}
-use Rattle.std.specs.Prelude.{codes}
-use Rattle.std.specs.List.{flat_map}
-use Rattle.report_text.specs.ReportText.{shown, pair_shown}
-use Rattle.report_text.proofs.pairs.push_pairs.Given as goal
-
-abbrev pub invariant-loop-pair : goal.invariant-loop-pair
-invariant-loop-pair l =
-    l.out.items ≡ l.initial.out.items ++ flat_map (λ next. codes "; " ++ next) (map (pair_shown (shown l.entries)) (take l.pair-index l.rest))

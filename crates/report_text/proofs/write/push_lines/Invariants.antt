@@ -1,7 +1,0 @@
-use Rattle.std.proofs.Common.{◌≡◌, ◌++◌, length, drop}
-use Rattle.report_text.specs.ReportText.{lines_text}
-use Rattle.report_text.proofs.write.push_lines.Given as goal
-
-abbrev pub invariant-loop-class : goal.invariant-loop-class
-invariant-loop-class l =
-    l.out.items ++ lines_text l.entries (drop (length l.yielded) l.classes) (drop (length l.yielded) l.lines) ≡ l.initial.out.items ++ lines_text l.entries l.classes l.lines

@@ -1,0 +1,14 @@
+pub mod Lemmas
+pub mod Below
+pub mod Ended
+pub mod Fits
+pub mod Made
+pub mod ObjectsEnded
+pub mod ObjectsKeyed
+pub mod ObjectsListed
+pub mod ObjectsNamed
+pub mod ContainersEnds
+pub mod ContainersLoops
+pub mod ContainersPayloads
+pub mod ProtoBase
+pub mod OfSignatures

@@ -1,0 +1,15 @@
+pub mod Below
+pub mod Say
+pub mod Repeats
+pub mod Called
+pub mod ClassAttributes
+pub mod TakeClasses
+pub mod ClassNames
+pub mod Questions
+pub mod IntValues
+pub mod TakeTexts
+pub mod Asking
+pub mod GiveContainers
+pub mod TakeContainers
+pub mod ProtoBase
+pub mod OfSignatures

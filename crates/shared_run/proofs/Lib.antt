@@ -1,5 +1,0 @@
-mod Entries
-mod Mixes
-mod Crews
-mod Texts
-mod Sent

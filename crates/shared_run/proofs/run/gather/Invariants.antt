@@ -1,9 +1,0 @@
-use Rattle.std.proofs.Common.{◌≡◌, ◌∷◌, map, false}
-use Rattle.std.specs.List.{All}
-use Rattle.shared_run.proofs.run.gather.Given as goal
-
-abbrev pub invariant-loop-worker : goal.invariant-loop-worker
-invariant-loop-worker l = record {
-  seats : l.seats.items ≡ l.fn.first ∷ map (λ w. w.seat) l.yielded;
-  accepted : All (λ w. w.refused ≡ false) l.yielded;
-}

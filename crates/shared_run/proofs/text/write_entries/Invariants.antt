@@ -1,7 +1,0 @@
-use Rattle.std.proofs.Common.{◌≡◌, take}
-use Rattle.shared_vm.specs.Journal.{plain_journal}
-use Rattle.shared_run.specs.JournalText.{entries_text}
-use Rattle.shared_run.proofs.text.write_entries.Given as goal
-
-abbrev pub invariant-loop-entry : goal.invariant-loop-entry
-invariant-loop-entry l = l.out.items ≡ entries_text (plain_journal (take l.entry-index l.journal))

@@ -1,0 +1,5 @@
+pub mod Entries
+pub mod Mixes
+pub mod Crews
+pub mod Texts
+pub mod Sent

@@ -1,6 +1,0 @@
-use Rattle.signatures.proofs.Signed.{signature-told}
-use Rattle.signatures.proofs.signature.get_text_signature_from_internal_doc.Goals as goal
-
-pub returns-clause-equals : goal.returns-clause-equals
-returns-clause-equals c =
-    signature-told (λ x. x.now) c.signature.result c.args.name.now c.last_part.result.now c.args.doc.now c.last_part.ensures.past c.signature.ensures.found c.signature.ensures.none

@@ -1,7 +1,0 @@
-use Rattle.std.proofs.Common.{refl}
-use Rattle.slot_tables.proofs.Filled.{no_slots, no_sequence, no_mapping}
-use Rattle.slot_tables.proofs.type_slots.PyTypeSlots.new.Goals as goal
-
--- src/type_slots.rt:136:5
-pub returns-clause-empty : goal.returns-clause-empty
-returns-clause-empty c = no_slots _ c.default.ensures no_sequence no_mapping refl refl refl refl refl refl refl refl refl refl refl refl refl

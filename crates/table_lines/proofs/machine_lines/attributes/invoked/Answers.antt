@@ -1,0 +1,6 @@
+use Rattle.table_lines.proofs.Lemmas.{with-nothing}
+use Rattle.table_lines.proofs.machine_lines.attributes.invoked.Goals as goal
+
+pub invoke-told-requires : goal.invoke-told-requires
+invoke-told-requires c =
+    rw c.new.ensures.items (rw c.new-2.ensures.items (with-nothing c.method.new.vm.world c.in_ok-method.method c.in_ok-method.ensures))

@@ -1,6 +1,0 @@
-use Rattle.std.proofs.Common.{true}
-use Rattle.shared_vm.specs.Turns.{newest}
-use Rattle.viewed_vm.proofs.shared.lose.Given as goal
-
-abbrev pub ghost-give : goal.ghost-give
-ghost-give a = newest a.seat.now.number a.seat.now.seen a.value.book.journal true
