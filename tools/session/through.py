@@ -1,12 +1,12 @@
 #!/usr/bin/env python3
-"""Has modules of words pass on what other modules of words pass on, in one line for each of those. By text alone.
+"""Has the modules of words of a crate pass on what its others pass on, in one line for each of those. By text alone.
 
     through.py TOP              changes the modules that words.py made
     through.py --count TOP      says what it would come to, and changes nothing
 
-The module of answers takes from the crate's other two, that of lemmas from the crate's definitions and from the same
-module of a crate that this one stands on, that of definitions from the latter. A line is replaced only where the other
-module passes on all its names, of the same modules, and lets them be unfolded where they have to be.
+The module of answers takes from the crate's other two, that of lemmas from that of definitions. A line is replaced only
+where the other module passes on all its names, of the same modules, and lets them be unfolded where they have to be.
+Those of other crates serve for nothing: what a library passes on but doesn't say itself can't be named from above.
 """
 
 from __future__ import annotations
@@ -51,12 +51,10 @@ def lines_of(text: str) -> list[Line]:
     return [Line(bool(it[1]), it[2], tuple(it[3].split(", "))) for it in hits if it]
 
 
-def taken_from(tree: Tree, place: Place) -> list[Place]:
+def taken_from(place: Place) -> list[Place]:
     """The modules of words from which one may take, the nearest first."""
-    if place.name == "Lemmas":
-        return [Place(place.crate, "proofs", "Below"), Place(place.crate, "specs", "Below")]
-    own = [Place(place.crate, "specs", "Below")] if place.part == "proofs" else []
-    return own + [Place(it, place.part, "Below") for it in tree.below(place.crate)]
+    nearer = [Place(place.crate, "proofs", "Below")] if place.name == "Lemmas" else []
+    return nearer + [Place(place.crate, "specs", "Below")] if place.part == "proofs" else []
 
 
 def shorter(rows: list[Line], known: dict[Place, dict[str, tuple[str, bool]]]) -> list[Line]:
@@ -93,7 +91,7 @@ def main(words: list[str]) -> int:
     tables = {place: {name: (row.module, row.shown) for row in rows for name in row.names} for place, (_, rows) in found.items()}
     before = after = 0
     for place, (file, rows) in found.items():
-        made = shorter(rows, {it: tables[it] for it in taken_from(tree, place) if it in tables})
+        made = shorter(rows, {it: tables[it] for it in taken_from(place) if it in tables})
         before, after = before + len(rows), after + len(made)
         if not counts_only:
             head = [row for row in read(file).splitlines() if row and not LINE.match(row)]
