@@ -8,18 +8,18 @@ ghost use Rattle.class_world.specs.Reading.{Reading, Reads, bindings, plain};
 ghost use Rattle.class_world.specs.Sound.{AreNodes, IsName, IsNode, Holds, Grows};
 
 use crate::world::World;
-use py_node::{Cause, OutOfMemory, Payload, PyObjectRef, PyStrInterned, Raised};
+use py_node::{Cause, FuncArgs, OutOfMemory, Payload, PyObjectRef, PyStrInterned, Raised};
 
 /// The only argument, or why the arguments are refused.
-pub fn one(args: &[PyObjectRef], kw: &[(PyStrInterned, PyObjectRef)]) -> Result<PyObjectRef, Raised>
+pub fn one(call: FuncArgs<'_>) -> Result<PyObjectRef, Raised>
     ensures given { IfOk result (λ o. (t : Reading) (w : PlainWorld) (go : Object → Said) →
-        with_one w args.now (bindings t kw.now) go ≡ go o) }
+        with_one w call.args.now (bindings t call.kw.now) go ≡ go o) }
     ensures refused { IfErr result (λ x. (t : Reading) (w : PlainWorld) (go : Object → Said) →
-        with_one w args.now (bindings t kw.now) go ≡ Ends w (Err x)) }
-    ensures node { IfOk result (λ o. (w : Held) → Holds w (AreNodes args.now) → Holds w (IsNode o)) }
+        with_one w call.args.now (bindings t call.kw.now) go ≡ Ends w (Err x)) }
+    ensures node { IfOk result (λ o. (w : Held) → Holds w (AreNodes call.args.now) → Holds w (IsNode o)) }
 {
-    match args {
-        [o] => match keyword_refusal(kw) {
+    match call.args {
+        [o] => match keyword_refusal(call.kw) {
             None => Ok(*o),
             Some(raised) => Err(raised),
         },
@@ -29,18 +29,17 @@ pub fn one(args: &[PyObjectRef], kw: &[(PyStrInterned, PyObjectRef)]) -> Result<
 
 /// The two arguments, or why the arguments are refused.
 pub fn two(
-    args: &[PyObjectRef],
-    kw: &[(PyStrInterned, PyObjectRef)],
+    call: FuncArgs<'_>,
 ) -> Result<(PyObjectRef, PyObjectRef), Raised>
     ensures given { IfOk result (λ p. (t : Reading) (w : PlainWorld) (go : Object → Object → Said) →
-        with_two w args.now (bindings t kw.now) go ≡ go p.0 p.1) }
+        with_two w call.args.now (bindings t call.kw.now) go ≡ go p.0 p.1) }
     ensures refused { IfErr result (λ x. (t : Reading) (w : PlainWorld) (go : Object → Object → Said) →
-        with_two w args.now (bindings t kw.now) go ≡ Ends w (Err x)) }
-    ensures first { IfOk result (λ p. (w : Held) → Holds w (AreNodes args.now) → Holds w (IsNode p.0)) }
-    ensures second { IfOk result (λ p. (w : Held) → Holds w (AreNodes args.now) → Holds w (IsNode p.1)) }
+        with_two w call.args.now (bindings t call.kw.now) go ≡ Ends w (Err x)) }
+    ensures first { IfOk result (λ p. (w : Held) → Holds w (AreNodes call.args.now) → Holds w (IsNode p.0)) }
+    ensures second { IfOk result (λ p. (w : Held) → Holds w (AreNodes call.args.now) → Holds w (IsNode p.1)) }
 {
-    match args {
-        [o, a] => match keyword_refusal(kw) {
+    match call.args {
+        [o, a] => match keyword_refusal(call.kw) {
             None => Ok((*o, *a)),
             Some(raised) => Err(raised),
         },
@@ -50,19 +49,18 @@ pub fn two(
 
 /// The three arguments, or why the arguments are refused.
 pub fn three(
-    args: &[PyObjectRef],
-    kw: &[(PyStrInterned, PyObjectRef)],
+    call: FuncArgs<'_>,
 ) -> Result<(PyObjectRef, PyObjectRef, PyObjectRef), Raised>
     ensures given { IfOk result (λ p. (t : Reading) (w : PlainWorld) (go : Object → Object → Object → Said) →
-        with_three w args.now (bindings t kw.now) go ≡ go p.0 p.1 p.2) }
+        with_three w call.args.now (bindings t call.kw.now) go ≡ go p.0 p.1 p.2) }
     ensures refused { IfErr result (λ x. (t : Reading) (w : PlainWorld) (go : Object → Object → Object → Said) →
-        with_three w args.now (bindings t kw.now) go ≡ Ends w (Err x)) }
-    ensures first { IfOk result (λ p. (w : Held) → Holds w (AreNodes args.now) → Holds w (IsNode p.0)) }
-    ensures second { IfOk result (λ p. (w : Held) → Holds w (AreNodes args.now) → Holds w (IsNode p.1)) }
-    ensures third { IfOk result (λ p. (w : Held) → Holds w (AreNodes args.now) → Holds w (IsNode p.2)) }
+        with_three w call.args.now (bindings t call.kw.now) go ≡ Ends w (Err x)) }
+    ensures first { IfOk result (λ p. (w : Held) → Holds w (AreNodes call.args.now) → Holds w (IsNode p.0)) }
+    ensures second { IfOk result (λ p. (w : Held) → Holds w (AreNodes call.args.now) → Holds w (IsNode p.1)) }
+    ensures third { IfOk result (λ p. (w : Held) → Holds w (AreNodes call.args.now) → Holds w (IsNode p.2)) }
 {
-    match args {
-        [o, a, b] => match keyword_refusal(kw) {
+    match call.args {
+        [o, a, b] => match keyword_refusal(call.kw) {
             None => Ok((*o, *a, *b)),
             Some(raised) => Err(raised),
         },

@@ -11,24 +11,23 @@ use crate::made::{change_dict, ends_none};
 use crate::take::{kind_refusal, own};
 use class_world::World;
 use class_world::limits::has_place;
-use py_node::{Answer, Cause, OutOfMemory, PyObjectRef, PyStrInterned, Raised};
+use py_node::{Answer, Cause, FuncArgs, OutOfMemory, PyObjectRef, PyStrInterned, Raised};
 use row_kit::take_containers::Kind;
 
 /// Sets the entries of another dict, if there is one, and then keywords, in a dict.
 pub(crate) fn init(
     world: &mut World,
-    args: &[PyObjectRef],
-    kw: &[(PyStrInterned, PyObjectRef)],
+    call: FuncArgs<'_>,
 ) -> Result<Result<Answer, Raised>, OutOfMemory>
-    requires { AllHold world.old (of_args args.now kw.now) }
+    requires { AllHold world.old (of_args call.args.now call.kw.now) }
     ensures ends { IfOk result (λ r. EndsAs (λ t u.
-        with_own kind.Dict u args.now (λ d. dict_filled u d args.now (bindings t kw.now)))
+        with_own kind.Dict u call.args.now (λ d. dict_filled u d call.args.now (bindings t call.kw.now)))
         world.old world.new r) }
     ensures safe { LeavesEnd world.old world.new result }
 {
-    match own(world, Kind::Dict, args) {
+    match own(world, Kind::Dict, call.args) {
         Err(raised) => Ok(Err(raised)),
-        Ok(dict) => fill(world, dict, args, kw),
+        Ok(dict) => fill(world, dict, call),
     }
 }
 
@@ -36,21 +35,20 @@ pub(crate) fn init(
 fn fill(
     world: &mut World,
     dict: PyObjectRef,
-    args: &[PyObjectRef],
-    kw: &[(PyStrInterned, PyObjectRef)],
+    call: FuncArgs<'_>,
 ) -> Result<Result<Answer, Raised>, OutOfMemory>
     requires dict { Holds world.old (IsNode dict) }
     requires holding { Holds world.old (Holding dict Dict) }
-    requires args { AllHold world.old (of_args args.now kw.now) }
-    ensures ends { IfOk result (λ r. EndsAs (λ t u. dict_filled u dict args.now (bindings t kw.now))
+    requires call.args { AllHold world.old (of_args call.args.now call.kw.now) }
+    ensures ends { IfOk result (λ r. EndsAs (λ t u. dict_filled u dict call.args.now (bindings t call.kw.now))
         world.old world.new r) }
     ensures safe { LeavesEnd world.old world.new result }
 {
-    match args {
-        [_] => set_names(world, dict, kw),
+    match call.args {
+        [_] => set_names(world, dict, call.kw),
         [_, other] => match update_from(world, dict, *other)? {
             Err(raised) => Ok(Err(raised)),
-            Ok(()) => set_names(world, dict, kw),
+            Ok(()) => set_names(world, dict, call.kw),
         },
         _ => Ok(Err(Raised::new(Cause::ArgCount))),
     }

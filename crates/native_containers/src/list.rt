@@ -12,7 +12,7 @@ use crate::sequence::{iter, joined, length};
 use crate::take::own_and;
 use class_world::World;
 use class_world::limits::is_within_limit;
-use py_node::{Answer, Cause, ListNative, OutOfMemory, PyObjectRef, PyStrInterned, Raised};
+use py_node::{Answer, Cause, FuncArgs, ListNative, OutOfMemory, PyObjectRef, Raised};
 use row_kit::give_containers::new_list;
 use row_kit::take_containers::{Kind, items};
 
@@ -20,19 +20,18 @@ use row_kit::take_containers::{Kind, items};
 pub fn list_native(
     world: &mut World,
     native: ListNative,
-    args: &[PyObjectRef],
-    kw: &[(PyStrInterned, PyObjectRef)],
+    call: FuncArgs<'_>,
 ) -> Result<Result<Answer, Raised>, OutOfMemory>
-    requires { Holds world.old (AreNodes args.now) }
-    ensures ends { IfOk result (λ r. EndsAs (λ t u. list_say u native args.now (bindings t kw.now))
+    requires { Holds world.old (AreNodes call.args.now) }
+    ensures ends { IfOk result (λ r. EndsAs (λ t u. list_say u native call.args.now (bindings t call.kw.now))
         world.old world.new r) }
     ensures safe { LeavesEnd world.old world.new result }
 {
     match native {
-        ListNative::Length => Ok(length(world, Kind::List, args, kw)),
-        ListNative::Iter => iter(world, Kind::List, args, kw),
-        ListNative::Add => add(world, args, kw),
-        ListNative::Append => append(world, args, kw),
+        ListNative::Length => Ok(length(world, Kind::List, call)),
+        ListNative::Iter => iter(world, Kind::List, call),
+        ListNative::Add => add(world, call),
+        ListNative::Append => append(world, call),
         _ => Ok(Err(Raised::new(Cause::SelfType))),
     }
 }
@@ -40,15 +39,14 @@ pub fn list_native(
 // Two lists after one another, as a new one.
 fn add(
     world: &mut World,
-    args: &[PyObjectRef],
-    kw: &[(PyStrInterned, PyObjectRef)],
+    call: FuncArgs<'_>,
 ) -> Result<Result<Answer, Raised>, OutOfMemory>
-    requires { Holds world.old (AreNodes args.now) }
+    requires { Holds world.old (AreNodes call.args.now) }
     ensures ends { IfOk result (λ r. EndsAs (λ t u.
-        with_joined kind.List u args.now (bindings t kw.now) (list_made u)) world.old world.new r) }
+        with_joined kind.List u call.args.now (bindings t call.kw.now) (list_made u)) world.old world.new r) }
     ensures safe { LeavesEnd world.old world.new result }
 {
-    match joined(world, Kind::List, args, kw)? {
+    match joined(world, Kind::List, call)? {
         Err(raised) => Ok(Err(raised)),
         Ok(items) => new_list(world, items),
     }
@@ -57,16 +55,15 @@ fn add(
 // An object is put last into a list.
 fn append(
     world: &mut World,
-    args: &[PyObjectRef],
-    kw: &[(PyStrInterned, PyObjectRef)],
+    call: FuncArgs<'_>,
 ) -> Result<Result<Answer, Raised>, OutOfMemory>
-    requires { Holds world.old (AreNodes args.now) }
+    requires { Holds world.old (AreNodes call.args.now) }
     ensures ends { IfOk result (λ r. EndsAs (λ t u.
-        with_own_and kind.List u args.now (bindings t kw.now)
+        with_own_and kind.List u call.args.now (bindings t call.kw.now)
         (λ o a. list_changed u o (items_at u o ++ a ∷ []))) world.old world.new r) }
     ensures safe { LeavesEnd world.old world.new result }
 {
-    match own_and(world, Kind::List, args, kw) {
+    match own_and(world, Kind::List, call) {
         Err(raised) => Ok(Err(raised)),
         Ok((list, last)) => push(world, list, last),
     }

@@ -27,10 +27,7 @@ use crate::native_items::search::{contains, searched};
 use crate::native_items::set::{item_set, set_item};
 use class_world::World;
 use py_node::task::{Args, Keywords};
-use py_node::{
-    Answer, IteratorNative, ListNative, NativeEntry, OutOfMemory, PyObjectRef, Raised, Step,
-    StrNative, TupleNative,
-};
+use py_node::{Answer, FuncArgs, IteratorNative, ListNative, NativeEntry, OutOfMemory, PyObjectRef, Raised, Step, StrNative, TupleNative};
 
 /// What a native of items keeps while it waits for an answer. Where a script may run meanwhile, this has the items
 /// that stood in the object at the start.
@@ -81,16 +78,17 @@ pub fn begin(
     ensures goes { IfOk result (λ step. Begins (task.Native entry args kw) world.old world.new step) }
     ensures safe { Leaves of_item_kept world.old world.new result }
 {
+    let call = FuncArgs { args: &args, kw: &kw };
     match entry {
-        NativeEntry::OfStr(StrNative::GetItem) => get_character(world, &args, &kw),
-        NativeEntry::OfTuple(TupleNative::GetItem) => get_item(world, Sequence::Tuple, &args, &kw),
-        NativeEntry::OfTuple(TupleNative::Contains) => contains(world, Sequence::Tuple, &args, &kw),
-        NativeEntry::OfList(ListNative::GetItem) => get_item(world, Sequence::List, &args, &kw),
-        NativeEntry::OfList(ListNative::SetItem) => set_item(world, &args, &kw),
-        NativeEntry::OfList(ListNative::DelItem) => delete_item(world, &args, &kw),
-        NativeEntry::OfList(ListNative::Contains) => contains(world, Sequence::List, &args, &kw),
-        NativeEntry::OfList(ListNative::InplaceAdd) => extend_list(world, &args, &kw),
-        NativeEntry::OfIterator(IteratorNative::Next) => next_item(world, &args, &kw),
+        NativeEntry::OfStr(StrNative::GetItem) => get_character(world, call),
+        NativeEntry::OfTuple(TupleNative::GetItem) => get_item(world, Sequence::Tuple, call),
+        NativeEntry::OfTuple(TupleNative::Contains) => contains(world, Sequence::Tuple, call),
+        NativeEntry::OfList(ListNative::GetItem) => get_item(world, Sequence::List, call),
+        NativeEntry::OfList(ListNative::SetItem) => set_item(world, call),
+        NativeEntry::OfList(ListNative::DelItem) => delete_item(world, call),
+        NativeEntry::OfList(ListNative::Contains) => contains(world, Sequence::List, call),
+        NativeEntry::OfList(ListNative::InplaceAdd) => extend_list(world, call),
+        NativeEntry::OfIterator(IteratorNative::Next) => next_item(world, call),
         _ => Ok(Step::elsewhere()),
     }
 }

@@ -9,7 +9,7 @@ use crate::take::{lone, own_and};
 use class_world::World;
 use class_world::limits::is_within_limit;
 use py_node::task::Args;
-use py_node::{Answer, Cause, OutOfMemory, PyObjectRef, PyStrInterned, Raised};
+use py_node::{Answer, Cause, FuncArgs, OutOfMemory, PyObjectRef, Raised};
 use row_kit::give::new_iterator;
 use row_kit::take_containers::{Kind, is_of, items};
 use std::alloc::Global;
@@ -18,15 +18,14 @@ use std::alloc::Global;
 pub(crate) fn length(
     world: &World,
     kind: Kind,
-    args: &[PyObjectRef],
-    kw: &[(PyStrInterned, PyObjectRef)],
+    call: FuncArgs<'_>,
 ) -> Result<Answer, Raised>
-    requires { Holds world.now (AreNodes args.now) }
-    ensures ends { EndsAs (λ t u. with_lone kind u args.now (bindings t kw.now)
+    requires { Holds world.now (AreNodes call.args.now) }
+    ensures ends { EndsAs (λ t u. with_lone kind u call.args.now (bindings t call.kw.now)
         (λ o. counted u (items_at u o))) world.now world.now result }
     ensures holds { AllHold world.now (of_ended result) }
 {
-    let object = lone(world, kind, args, kw)?;
+    let object = lone(world, kind, call)?;
     Ok(Answer::Number(items(world, object).len() as i64))
 }
 
@@ -34,15 +33,14 @@ pub(crate) fn length(
 pub(crate) fn iter(
     world: &mut World,
     kind: Kind,
-    args: &[PyObjectRef],
-    kw: &[(PyStrInterned, PyObjectRef)],
+    call: FuncArgs<'_>,
 ) -> Result<Result<Answer, Raised>, OutOfMemory>
-    requires { Holds world.old (AreNodes args.now) }
+    requires { Holds world.old (AreNodes call.args.now) }
     ensures ends { IfOk result (λ r. EndsAs (λ t u.
-        with_lone kind u args.now (bindings t kw.now) (iterator_made u)) world.old world.new r) }
+        with_lone kind u call.args.now (bindings t call.kw.now) (iterator_made u)) world.old world.new r) }
     ensures safe { LeavesEnd world.old world.new result }
 {
-    match lone(world, kind, args, kw) {
+    match lone(world, kind, call) {
         Err(raised) => Ok(Err(raised)),
         Ok(object) => new_iterator(world, object),
     }
@@ -52,17 +50,16 @@ pub(crate) fn iter(
 pub(crate) fn joined(
     world: &World,
     kind: Kind,
-    args: &[PyObjectRef],
-    kw: &[(PyStrInterned, PyObjectRef)],
+    call: FuncArgs<'_>,
 ) -> Result<Result<Args, Raised>, OutOfMemory>
-    requires { Holds world.now (AreNodes args.now) }
+    requires { Holds world.now (AreNodes call.args.now) }
     ensures given { IfOk result (λ r. IfOk r (λ rs. (t : Reading) (go : List Object → Said) →
-        with_joined kind (plain t world.now) args.now (bindings t kw.now) go ≡ go rs.items)) }
+        with_joined kind (plain t world.now) call.args.now (bindings t call.kw.now) go ≡ go rs.items)) }
     ensures refused { IfOk result (λ r. IfErr r (λ x. (t : Reading) (go : List Object → Said) →
-        with_joined kind (plain t world.now) args.now (bindings t kw.now) go ≡ Ends (plain t world.now) (Err x))) }
+        with_joined kind (plain t world.now) call.args.now (bindings t call.kw.now) go ≡ Ends (plain t world.now) (Err x))) }
     ensures holds { IfOk result (λ r. IfOk r (λ rs. Holds world.now (AreNodes rs.items))) }
 {
-    let (first, second) = match own_and(world, kind, args, kw) {
+    let (first, second) = match own_and(world, kind, call) {
         Err(raised) => return Ok(Err(raised)),
         Ok(pair) => pair,
     };

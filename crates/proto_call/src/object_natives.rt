@@ -7,9 +7,7 @@ ghost use Rattle.proto_call.specs.ObjectNatives.{object_text, object_native_say,
 
 use class_world::takes::{one, two};
 use class_world::{Fixed, World};
-use py_node::{
-    Answer, Cause, ObjectNative, OutOfMemory, PyObjectRef, PyStrInterned, PyTypeRef, Raised,
-};
+use py_node::{Answer, Cause, FuncArgs, ObjectNative, OutOfMemory, PyObjectRef, PyTypeRef, Raised};
 use row_kit::class_names::{in_module, limited_text, module_of, qualname};
 use std::alloc::Global;
 
@@ -49,22 +47,21 @@ fn numbered(alloc: Global, name: &str, number: u64) -> Result<String, OutOfMemor
 pub fn object_native(
     world: &mut World,
     native: ObjectNative,
-    args: &[PyObjectRef],
-    kw: &[(PyStrInterned, PyObjectRef)],
+    call: FuncArgs<'_>,
 ) -> Result<Result<Answer, Raised>, OutOfMemory>
-    requires { Holds world.old (AreNodes args.now) }
-    ensures ends { IfOk result (λ r. EndsAs (λ t u. object_native_say u native args.now (bindings t kw.now))
+    requires { Holds world.old (AreNodes call.args.now) }
+    ensures ends { IfOk result (λ r. EndsAs (λ t u. object_native_say u native call.args.now (bindings t call.kw.now))
         world.old world.new r) }
     ensures safe { LeavesEnd world.old world.new result }
 {
     match native {
-        ObjectNative::Repr => object_repr(world, args, kw),
-        ObjectNative::Hash => Ok(object_hash(args, kw)),
-        ObjectNative::Eq => Ok(object_eq(world, args, kw)),
+        ObjectNative::Repr => object_repr(world, call),
+        ObjectNative::Hash => Ok(object_hash(call)),
+        ObjectNative::Eq => Ok(object_eq(world, call)),
         ObjectNative::Lt | ObjectNative::Le | ObjectNative::Ge | ObjectNative::Gt => {
-            Ok(says_nothing(world, args, kw))
+            Ok(says_nothing(world, call))
         }
-        ObjectNative::SubclassHook => Ok(subclass_hook(world, args)),
+        ObjectNative::SubclassHook => Ok(subclass_hook(world, call.args)),
         _ => Ok(Err(Raised::new(Cause::SelfType))),
     }
 }
@@ -72,15 +69,14 @@ pub fn object_native(
 // The text of an object: its class and its number.
 fn object_repr(
     world: &mut World,
-    args: &[PyObjectRef],
-    kw: &[(PyStrInterned, PyObjectRef)],
+    call: FuncArgs<'_>,
 ) -> Result<Result<Answer, Raised>, OutOfMemory>
-    requires { Holds world.old (AreNodes args.now) }
-    ensures ends { IfOk result (λ r. EndsAs (λ t u. object_repr u args.now (bindings t kw.now))
+    requires { Holds world.old (AreNodes call.args.now) }
+    ensures ends { IfOk result (λ r. EndsAs (λ t u. object_repr u call.args.now (bindings t call.kw.now))
         world.old world.new r) }
     ensures safe { LeavesEnd world.old world.new result }
 {
-    let object = match one(args, kw) {
+    let object = match one(call) {
         Err(raised) => return Ok(Err(raised)),
         Ok(object) => object,
     };
@@ -91,24 +87,23 @@ fn object_repr(
 }
 
 // The hash of an object is its number, of 64 bits with their sign.
-fn object_hash(args: &[PyObjectRef], kw: &[(PyStrInterned, PyObjectRef)]) -> Result<Answer, Raised>
-    ensures ends { (w : World) → EndsAs (λ t u. object_hash u args.now (bindings t kw.now)) w w result }
+fn object_hash(call: FuncArgs<'_>) -> Result<Answer, Raised>
+    ensures ends { (w : World) → EndsAs (λ t u. object_hash u call.args.now (bindings t call.kw.now)) w w result }
     ensures holds { (w : Held) → AllHold w (of_ended result) }
 {
-    let object = one(args, kw)?;
+    let object = one(call)?;
     Ok(Answer::Number(object.0.cast_signed()))
 }
 
 // An object is equal to itself. Of others the native says nothing.
 fn object_eq(
     world: &World,
-    args: &[PyObjectRef],
-    kw: &[(PyStrInterned, PyObjectRef)],
+    call: FuncArgs<'_>,
 ) -> Result<Answer, Raised>
-    ensures ends { EndsAs (λ t u. object_eq u args.now (bindings t kw.now)) world.now world.now result }
+    ensures ends { EndsAs (λ t u. object_eq u call.args.now (bindings t call.kw.now)) world.now world.now result }
     ensures holds { AllHold world.now (of_ended result) }
 {
-    let (a, b) = two(args, kw)?;
+    let (a, b) = two(call)?;
     if a.0 == b.0 {
         Ok(Answer::Value(world.truth(true)))
     } else {
@@ -119,13 +114,12 @@ fn object_eq(
 // Two objects of which the native says nothing.
 fn says_nothing(
     world: &World,
-    args: &[PyObjectRef],
-    kw: &[(PyStrInterned, PyObjectRef)],
+    call: FuncArgs<'_>,
 ) -> Result<Answer, Raised>
-    ensures ends { EndsAs (λ t u. says_nothing u args.now (bindings t kw.now)) world.now world.now result }
+    ensures ends { EndsAs (λ t u. says_nothing u call.args.now (bindings t call.kw.now)) world.now world.now result }
     ensures holds { AllHold world.now (of_ended result) }
 {
-    let _both = two(args, kw)?;
+    let _both = two(call)?;
     Ok(Answer::Value(world.fixed(Fixed::NotImplemented)))
 }
 

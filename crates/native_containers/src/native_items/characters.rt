@@ -14,23 +14,20 @@ use crate::native_texts::take::{text_and, text_of};
 use crate::native_texts::text_length;
 use class_world::{Fixed, World};
 use py_node::protocol::ProtocolTask;
-use py_node::{
-    Answer, Cause, OutOfMemory, PyObjectRef, PySlice, PyStrInterned, Raised, Step, Task,
-};
+use py_node::{Answer, Cause, FuncArgs, OutOfMemory, PyObjectRef, PySlice, Raised, Step, Task};
 use row_kit::give::new_text;
 use std::alloc::Global;
 
 /// A character, or a part, of a text as a new text.
 pub(crate) fn get_character(
     world: &mut World,
-    args: &[PyObjectRef],
-    kw: &[(PyStrInterned, PyObjectRef)],
+    call: FuncArgs<'_>,
 ) -> Result<Step<ItemKept>, OutOfMemory>
-    requires { Holds world.old (AreNodes args.now) }
-    ensures goes { IfOk result (λ step. Enters (OfStr GetItem) args.now kw.now world.old world.new step) }
+    requires { Holds world.old (AreNodes call.args.now) }
+    ensures goes { IfOk result (λ step. Enters (OfStr GetItem) call.args.now call.kw.now world.old world.new step) }
     ensures safe { Leaves of_item_kept world.old world.new result }
 {
-    match text_and(world, args, kw) {
+    match text_and(world, call) {
         Err(raised) => Ok(Step::End(Err(raised))),
         Ok((text, key)) => match slice_of(world, key) {
             Some(slice) => {
@@ -40,7 +37,7 @@ pub(crate) fn get_character(
             }
             None => {
                 let task = Task::Protocol(ProtocolTask::Index(key));
-                let object = first_argument(world, args);
+                let object = first_argument(world, call.args);
                 Ok(Step::Ask(task, ItemKept::GettingCharacter(object)))
             }
         },

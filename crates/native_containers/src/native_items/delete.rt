@@ -17,20 +17,19 @@ use class_world::World;
 use class_world::limits::is_within_limit;
 use py_node::protocol::ProtocolTask;
 use py_node::task::Args;
-use py_node::{Answer, Cause, OutOfMemory, PyObjectRef, PyStrInterned, Raised, Step, Task};
+use py_node::{Answer, Cause, FuncArgs, OutOfMemory, PyObjectRef, Raised, Step, Task};
 use row_kit::take_containers::{Kind, items};
 
 /// An item of a list is taken out, or a part of it.
 pub(crate) fn delete_item(
     world: &mut World,
-    args: &[PyObjectRef],
-    kw: &[(PyStrInterned, PyObjectRef)],
+    call: FuncArgs<'_>,
 ) -> Result<Step<ItemKept>, OutOfMemory>
-    requires { Holds world.old (AreNodes args.now) }
-    ensures goes { IfOk result (λ step. Enters (OfList DelItem) args.now kw.now world.old world.new step) }
+    requires { Holds world.old (AreNodes call.args.now) }
+    ensures goes { IfOk result (λ step. Enters (OfList DelItem) call.args.now call.kw.now world.old world.new step) }
     ensures safe { Leaves of_item_kept world.old world.new result }
 {
-    match own_and(world, Kind::List, args, kw) {
+    match own_and(world, Kind::List, call) {
         Err(raised) => Ok(Step::End(Err(raised))),
         Ok((list, key)) => delete_asked(world, list, key),
     }

@@ -13,23 +13,20 @@ use class_world::World;
 use class_world::limits::is_within_limit;
 use py_node::protocol::ProtocolTask;
 use py_node::task::Args;
-use py_node::{
-    Answer, Cause, OutOfMemory, Payload, PyObjectRef, PyStrInterned, Raised, Step, Task,
-};
+use py_node::{Answer, Cause, FuncArgs, OutOfMemory, Payload, PyObjectRef, Raised, Step, Task};
 use row_kit::proto_base::is_plain;
 use row_kit::take_containers::{Kind, items};
 
 /// A list gets the items of an iteration after its own, and is the answer.
 pub(crate) fn extend_list(
     world: &World,
-    args: &[PyObjectRef],
-    kw: &[(PyStrInterned, PyObjectRef)],
+    call: FuncArgs<'_>,
 ) -> Result<Step<ItemKept>, OutOfMemory>
-    requires { Holds world.now (AreNodes args.now) }
-    ensures goes { IfOk result (λ step. Enters (OfList InplaceAdd) args.now kw.now world.now world.now step) }
+    requires { Holds world.now (AreNodes call.args.now) }
+    ensures goes { IfOk result (λ step. Enters (OfList InplaceAdd) call.args.now call.kw.now world.now world.now step) }
     ensures safe { Leaves of_item_kept world.now world.now result }
 {
-    match own_and(world, Kind::List, args, kw) {
+    match own_and(world, Kind::List, call) {
         Err(raised) => Ok(Step::End(Err(raised))),
         Ok((list, others)) => items_asked(world, list, others),
     }

@@ -12,7 +12,7 @@ use crate::take::own_and;
 use class_world::World;
 use py_node::protocol::ProtocolTask;
 use py_node::task::Args;
-use py_node::{Answer, Cause, OutOfMemory, PyObjectRef, PyStrInterned, Raised, Step, Task};
+use py_node::{Answer, Cause, FuncArgs, OutOfMemory, PyObjectRef, Raised, Step, Task};
 use row_kit::give_containers::{new_list, new_tuple};
 use row_kit::take_containers::{Kind, items};
 
@@ -37,14 +37,13 @@ pub(crate) fn kind_of(sequence: Sequence) -> Kind
 pub(crate) fn get_item(
     world: &mut World,
     sequence: Sequence,
-    args: &[PyObjectRef],
-    kw: &[(PyStrInterned, PyObjectRef)],
+    call: FuncArgs<'_>,
 ) -> Result<Step<ItemKept>, OutOfMemory>
-    requires { Holds world.old (AreNodes args.now) }
-    ensures goes { IfOk result (λ step. Enters (getter_of sequence) args.now kw.now world.old world.new step) }
+    requires { Holds world.old (AreNodes call.args.now) }
+    ensures goes { IfOk result (λ step. Enters (getter_of sequence) call.args.now call.kw.now world.old world.new step) }
     ensures safe { Leaves of_item_kept world.old world.new result }
 {
-    match own_and(world, kind_of(sequence), args, kw) {
+    match own_and(world, kind_of(sequence), call) {
         Err(raised) => Ok(Step::End(Err(raised))),
         Ok((object, key)) => item_asked(world, sequence, object, key),
     }

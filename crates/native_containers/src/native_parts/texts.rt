@@ -10,9 +10,7 @@ use crate::native_parts::take::{Container, lone, part_at, parts_of, text_at};
 use class_world::World;
 use class_world::limits::{MOST_ITEMS, is_within_limit};
 use py_node::task::Args;
-use py_node::{
-    Answer, Cause, ObjectTask, OutOfMemory, PyObjectRef, PyStrInterned, Raised, Step, Task,
-};
+use py_node::{Answer, Cause, FuncArgs, ObjectTask, OutOfMemory, PyObjectRef, Raised, Step, Task};
 use row_kit::give::new_text;
 
 /// The parts of a container, how many of them were asked for their texts, and the texts that were answered.
@@ -27,14 +25,13 @@ pub struct Parts {
 pub(crate) fn begin_text(
     world: &mut World,
     container: Container,
-    args: &[PyObjectRef],
-    kw: &[(PyStrInterned, PyObjectRef)],
+    call: FuncArgs<'_>,
 ) -> Result<Step<PartsKept>, OutOfMemory>
-    requires { Holds world.old (AreNodes args.now) }
-    ensures goes { IfOk result (λ step. Starts (repr_of container) args.now kw.now world.old world.new step) }
+    requires { Holds world.old (AreNodes call.args.now) }
+    ensures goes { IfOk result (λ step. Starts (repr_of container) call.args.now call.kw.now world.old world.new step) }
     ensures safe { Leaves of_parts_kept world.old world.new result }
 {
-    match lone(world, container, args, kw) {
+    match lone(world, container, call) {
         Err(raised) => Ok(Step::End(Err(raised))),
         Ok(object) => {
             let texts = Vec::new(world.alloc());

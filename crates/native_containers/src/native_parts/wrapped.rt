@@ -10,9 +10,7 @@ use crate::native_parts::take::text_at;
 use class_world::World;
 use class_world::limits::is_within_limit;
 use class_world::takes::one;
-use py_node::{
-    Answer, Cause, ObjectTask, OutOfMemory, Payload, PyObjectRef, PyStrInterned, Raised, Step, Task,
-};
+use py_node::{Answer, Cause, FuncArgs, ObjectTask, OutOfMemory, Payload, PyObjectRef, Raised, Step, Task};
 use row_kit::give::new_text;
 
 /// A class method or a static method.
@@ -26,18 +24,17 @@ pub enum Wrapper {
 pub(crate) fn begin_wrapped(
     world: &World,
     wrapper: Wrapper,
-    args: &[PyObjectRef],
-    kw: &[(PyStrInterned, PyObjectRef)],
+    call: FuncArgs<'_>,
 ) -> Step<PartsKept>
-    requires { Holds world.now (AreNodes args.now) }
-    ensures goes { Starts (repr_of_wrapper wrapper) args.now kw.now world.now world.now result }
+    requires { Holds world.now (AreNodes call.args.now) }
+    ensures goes { Starts (repr_of_wrapper wrapper) call.args.now call.kw.now world.now world.now result }
     ensures safe { AllHold world.now (of_step of_parts_kept result) }
 {
-    let func = match own_wrapped(world, wrapper, args) {
+    let func = match own_wrapped(world, wrapper, call.args) {
         Err(raised) => return Step::End(Err(raised)),
         Ok(func) => func,
     };
-    match one(args, kw) {
+    match one(call) {
         Err(raised) => Step::End(Err(raised)),
         Ok(_wrapper) => Step::Ask(
             Task::Object(ObjectTask::Repr(func)),

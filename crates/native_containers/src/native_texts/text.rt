@@ -7,7 +7,7 @@ ghost use Rattle.native_containers.specs.NativeTexts.Say.{is_str, str_add, str_c
 use crate::native_texts::of_bytes::{repr_text, stands_in, text_hash, text_length};
 use crate::native_texts::take::{lone_text, text_and, text_of};
 use class_world::World;
-use py_node::{Answer, BuiltIn, Cause, OutOfMemory, PyObjectRef, PyStrInterned, Raised, StrNative};
+use py_node::{Answer, BuiltIn, Cause, FuncArgs, OutOfMemory, PyObjectRef, Raised, StrNative};
 use row_kit::class_names::limited_text;
 use row_kit::give::{new_iterator, new_text};
 
@@ -15,23 +15,22 @@ use row_kit::give::{new_iterator, new_text};
 pub fn text_native(
     world: &mut World,
     native: StrNative,
-    args: &[PyObjectRef],
-    kw: &[(PyStrInterned, PyObjectRef)],
+    call: FuncArgs<'_>,
 ) -> Result<Result<Answer, Raised>, OutOfMemory>
-    requires { Holds world.old (AreNodes args.now) }
-    ensures ends { IfOk result (λ r. EndsAs (λ t u. text_say u native args.now (bindings t kw.now))
+    requires { Holds world.old (AreNodes call.args.now) }
+    ensures ends { IfOk result (λ r. EndsAs (λ t u. text_say u native call.args.now (bindings t call.kw.now))
         world.old world.new r) }
     ensures safe { LeavesEnd world.old world.new result }
 {
     match native {
-        StrNative::Repr => str_repr(world, args, kw),
-        StrNative::Str => str_str(world, args, kw),
-        StrNative::Hash => Ok(str_hash(world, args, kw)),
-        StrNative::Length => Ok(str_len(world, args, kw)),
-        StrNative::Contains => Ok(str_contains(world, args, kw)),
-        StrNative::Iter => str_iter(world, args, kw),
-        StrNative::Add => str_add(world, args, kw),
-        StrNative::Upper => str_upper(world, args, kw),
+        StrNative::Repr => str_repr(world, call),
+        StrNative::Str => str_str(world, call),
+        StrNative::Hash => Ok(str_hash(world, call)),
+        StrNative::Length => Ok(str_len(world, call)),
+        StrNative::Contains => Ok(str_contains(world, call)),
+        StrNative::Iter => str_iter(world, call),
+        StrNative::Add => str_add(world, call),
+        StrNative::Upper => str_upper(world, call),
         StrNative::GetItem | StrNative::Multiply | StrNative::RightMultiply => {
             Ok(Err(Raised::new(Cause::SelfType)))
         }
@@ -41,15 +40,14 @@ pub fn text_native(
 // The text as Python writes it.
 fn str_repr(
     world: &mut World,
-    args: &[PyObjectRef],
-    kw: &[(PyStrInterned, PyObjectRef)],
+    call: FuncArgs<'_>,
 ) -> Result<Result<Answer, Raised>, OutOfMemory>
-    requires { Holds world.old (AreNodes args.now) }
-    ensures ends { IfOk result (λ r. EndsAs (λ t u. str_repr u args.now (bindings t kw.now))
+    requires { Holds world.old (AreNodes call.args.now) }
+    ensures ends { IfOk result (λ r. EndsAs (λ t u. str_repr u call.args.now (bindings t call.kw.now))
         world.old world.new r) }
     ensures safe { LeavesEnd world.old world.new result }
 {
-    match lone_text(world, args, kw) {
+    match lone_text(world, call) {
         Err(raised) => Ok(Err(raised)),
         Ok((_, text)) => {
             let quoted = repr_text(world.alloc(), text)?;
@@ -61,15 +59,14 @@ fn str_repr(
 // The text itself, as a str of no other class.
 fn str_str(
     world: &mut World,
-    args: &[PyObjectRef],
-    kw: &[(PyStrInterned, PyObjectRef)],
+    call: FuncArgs<'_>,
 ) -> Result<Result<Answer, Raised>, OutOfMemory>
-    requires { Holds world.old (AreNodes args.now) }
-    ensures ends { IfOk result (λ r. EndsAs (λ t u. str_str u args.now (bindings t kw.now))
+    requires { Holds world.old (AreNodes call.args.now) }
+    ensures ends { IfOk result (λ r. EndsAs (λ t u. str_str u call.args.now (bindings t call.kw.now))
         world.old world.new r) }
     ensures safe { LeavesEnd world.old world.new result }
 {
-    match lone_text(world, args, kw) {
+    match lone_text(world, call) {
         Err(raised) => Ok(Err(raised)),
         Ok((o, _)) if is_str(world, o) => Ok(Ok(Answer::Value(o))),
         Ok((_, text)) => {
@@ -82,43 +79,40 @@ fn str_str(
 // The hash of the text.
 fn str_hash(
     world: &World,
-    args: &[PyObjectRef],
-    kw: &[(PyStrInterned, PyObjectRef)],
+    call: FuncArgs<'_>,
 ) -> Result<Answer, Raised>
-    requires { Holds world.now (AreNodes args.now) }
-    ensures ends { EndsAs (λ t u. str_hash u args.now (bindings t kw.now)) world.now world.now result }
+    requires { Holds world.now (AreNodes call.args.now) }
+    ensures ends { EndsAs (λ t u. str_hash u call.args.now (bindings t call.kw.now)) world.now world.now result }
     ensures holds { AllHold world.now (of_ended result) }
 {
-    let (_, text) = lone_text(world, args, kw)?;
+    let (_, text) = lone_text(world, call)?;
     Ok(Answer::Number(text_hash(text)))
 }
 
 // How many characters the text has.
 fn str_len(
     world: &World,
-    args: &[PyObjectRef],
-    kw: &[(PyStrInterned, PyObjectRef)],
+    call: FuncArgs<'_>,
 ) -> Result<Answer, Raised>
-    requires { Holds world.now (AreNodes args.now) }
-    ensures ends { EndsAs (λ t u. str_len u args.now (bindings t kw.now)) world.now world.now result }
+    requires { Holds world.now (AreNodes call.args.now) }
+    ensures ends { EndsAs (λ t u. str_len u call.args.now (bindings t call.kw.now)) world.now world.now result }
     ensures holds { AllHold world.now (of_ended result) }
 {
-    let (_, text) = lone_text(world, args, kw)?;
+    let (_, text) = lone_text(world, call)?;
     Ok(Answer::Number((text_length(text) as u64).cast_signed()))
 }
 
 // An iterator over the characters of the text.
 fn str_iter(
     world: &mut World,
-    args: &[PyObjectRef],
-    kw: &[(PyStrInterned, PyObjectRef)],
+    call: FuncArgs<'_>,
 ) -> Result<Result<Answer, Raised>, OutOfMemory>
-    requires { Holds world.old (AreNodes args.now) }
-    ensures ends { IfOk result (λ r. EndsAs (λ t u. str_iter u args.now (bindings t kw.now))
+    requires { Holds world.old (AreNodes call.args.now) }
+    ensures ends { IfOk result (λ r. EndsAs (λ t u. str_iter u call.args.now (bindings t call.kw.now))
         world.old world.new r) }
     ensures safe { LeavesEnd world.old world.new result }
 {
-    match lone_text(world, args, kw) {
+    match lone_text(world, call) {
         Err(raised) => Ok(Err(raised)),
         Ok((o, _)) => new_iterator(world, o),
     }
@@ -127,15 +121,14 @@ fn str_iter(
 // The text with the letters of ASCII in upper case.
 fn str_upper(
     world: &mut World,
-    args: &[PyObjectRef],
-    kw: &[(PyStrInterned, PyObjectRef)],
+    call: FuncArgs<'_>,
 ) -> Result<Result<Answer, Raised>, OutOfMemory>
-    requires { Holds world.old (AreNodes args.now) }
-    ensures ends { IfOk result (λ r. EndsAs (λ t u. str_upper u args.now (bindings t kw.now))
+    requires { Holds world.old (AreNodes call.args.now) }
+    ensures ends { IfOk result (λ r. EndsAs (λ t u. str_upper u call.args.now (bindings t call.kw.now))
         world.old world.new r) }
     ensures safe { LeavesEnd world.old world.new result }
 {
-    match lone_text(world, args, kw) {
+    match lone_text(world, call) {
         Err(raised) => Ok(Err(raised)),
         Ok((_, text)) => {
             let upper = text.to_ascii_uppercase(world.alloc())?;
@@ -147,15 +140,14 @@ fn str_upper(
 // Both texts, one after the other.
 fn str_add(
     world: &mut World,
-    args: &[PyObjectRef],
-    kw: &[(PyStrInterned, PyObjectRef)],
+    call: FuncArgs<'_>,
 ) -> Result<Result<Answer, Raised>, OutOfMemory>
-    requires { Holds world.old (AreNodes args.now) }
-    ensures ends { IfOk result (λ r. EndsAs (λ t u. str_add u args.now (bindings t kw.now))
+    requires { Holds world.old (AreNodes call.args.now) }
+    ensures ends { IfOk result (λ r. EndsAs (λ t u. str_add u call.args.now (bindings t call.kw.now))
         world.old world.new r) }
     ensures safe { LeavesEnd world.old world.new result }
 {
-    let (text, other) = match text_and(world, args, kw) {
+    let (text, other) = match text_and(world, call) {
         Err(raised) => return Ok(Err(raised)),
         Ok(given) => given,
     };
@@ -172,14 +164,13 @@ fn str_add(
 // Whether the other text stands somewhere in the first.
 fn str_contains(
     world: &World,
-    args: &[PyObjectRef],
-    kw: &[(PyStrInterned, PyObjectRef)],
+    call: FuncArgs<'_>,
 ) -> Result<Answer, Raised>
-    requires { Holds world.now (AreNodes args.now) }
-    ensures ends { EndsAs (λ t u. str_contains u args.now (bindings t kw.now)) world.now world.now result }
+    requires { Holds world.now (AreNodes call.args.now) }
+    ensures ends { EndsAs (λ t u. str_contains u call.args.now (bindings t call.kw.now)) world.now world.now result }
     ensures holds { AllHold world.now (of_ended result) }
 {
-    let (text, other) = text_and(world, args, kw)?;
+    let (text, other) = text_and(world, call)?;
     match text_of(world, other) {
         None => Err(Raised::new(Cause::ContainsType)),
         Some(part) => Ok(Answer::Value(world.truth(stands_in(part, text)))),

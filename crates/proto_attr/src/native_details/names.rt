@@ -11,10 +11,7 @@ use crate::native_details::DetailKept;
 use class_world::limits::is_within_limit;
 use class_world::takes::one;
 use class_world::{Fixed, World};
-use py_node::{
-    Answer, AttributeTask, Cause, Detail, Kind, Known, MemberDescriptor, OutOfMemory, Payload,
-    PyObjectRef, PyStrInterned, Raised, Step, Task,
-};
+use py_node::{Answer, AttributeTask, Cause, Detail, FuncArgs, Kind, Known, MemberDescriptor, OutOfMemory, Payload, PyObjectRef, PyStrInterned, Raised, Step, Task};
 use row_kit::class_names::limited_text;
 use row_kit::give::new_text;
 
@@ -22,19 +19,18 @@ use row_kit::give::new_text;
 pub(crate) fn begin_name(
     world: &mut World,
     detail: Detail,
-    args: &[PyObjectRef],
-    kw: &[(PyStrInterned, PyObjectRef)],
+    call: FuncArgs<'_>,
 ) -> Result<Step<DetailKept>, OutOfMemory>
-    requires { Holds world.old (AreNodes args.now) }
-    ensures goes { IfOk result (λ step. Does (entry.GetterOf built_in.MemberDescriptor detail) args.now
-        (λ t. bindings t kw.now) (λ t u. member_name u args.now (bindings t kw.now)) world.old world.new step) }
+    requires { Holds world.old (AreNodes call.args.now) }
+    ensures goes { IfOk result (λ step. Does (entry.GetterOf built_in.MemberDescriptor detail) call.args.now
+        (λ t. bindings t call.kw.now) (λ t u. member_name u call.args.now (bindings t call.kw.now)) world.old world.new step) }
     ensures safe { Leaves of_detail_kept world.old world.new result }
 {
-    let (object, member) = match own_member(world, args) {
+    let (object, member) = match own_member(world, call.args) {
         Err(raised) => return Ok(Step::End(Err(raised))),
         Ok(own) => own,
     };
-    if let Err(raised) = one(args, kw) {
+    if let Err(raised) = one(call) {
         return Ok(Step::End(Err(raised)));
     }
     match member.qualname {

@@ -7,10 +7,7 @@ ghost use Rattle.proto_attr.specs.NativeObjects.Descriptors.{callable_say, descr
 use crate::native_objects::take::{own_member, own_method, own_static, own_super};
 use class_world::takes::{one, two};
 use class_world::{Fixed, World};
-use py_node::{
-    Answer, CallableNative, Cause, DescriptorNative, OutOfMemory, Payload, PyObjectRef,
-    PyStrInterned, PySuper, PyTypeRef, Raised, SuperNative, WrapperNative,
-};
+use py_node::{Answer, CallableNative, Cause, DescriptorNative, FuncArgs, OutOfMemory, Payload, PyStrInterned, PySuper, PyTypeRef, Raised, SuperNative, WrapperNative};
 use row_kit::class_names::limited_text;
 use std::alloc::Global;
 
@@ -18,16 +15,15 @@ use std::alloc::Global;
 pub fn callable_native(
     world: &mut World,
     native: CallableNative,
-    args: &[PyObjectRef],
-    kw: &[(PyStrInterned, PyObjectRef)],
+    call: FuncArgs<'_>,
 ) -> Result<Result<Answer, Raised>, OutOfMemory>
-    requires { Holds world.old (AreNodes args.now) }
-    ensures ends { IfOk result (λ r. EndsAs (λ t u. callable_say u native args.now (bindings t kw.now))
+    requires { Holds world.old (AreNodes call.args.now) }
+    ensures ends { IfOk result (λ r. EndsAs (λ t u. callable_say u native call.args.now (bindings t call.kw.now))
         world.old world.new r) }
     ensures safe { LeavesEnd world.old world.new result }
 {
     match native {
-        CallableNative::ReprMethodDescriptor => method_repr(world, args, kw),
+        CallableNative::ReprMethodDescriptor => method_repr(world, call),
         _ => Ok(Err(Raised::new(Cause::SelfType))),
     }
 }
@@ -36,16 +32,15 @@ pub fn callable_native(
 pub fn descriptor_native(
     world: &mut World,
     native: DescriptorNative,
-    args: &[PyObjectRef],
-    kw: &[(PyStrInterned, PyObjectRef)],
+    call: FuncArgs<'_>,
 ) -> Result<Result<Answer, Raised>, OutOfMemory>
-    requires { Holds world.old (AreNodes args.now) }
-    ensures ends { IfOk result (λ r. EndsAs (λ t u. descriptor_native_say u native args.now (bindings t kw.now))
+    requires { Holds world.old (AreNodes call.args.now) }
+    ensures ends { IfOk result (λ r. EndsAs (λ t u. descriptor_native_say u native call.args.now (bindings t call.kw.now))
         world.old world.new r) }
     ensures safe { LeavesEnd world.old world.new result }
 {
     match native {
-        DescriptorNative::MemberRepr => member_repr(world, args, kw),
+        DescriptorNative::MemberRepr => member_repr(world, call),
         _ => Ok(Err(Raised::new(Cause::SelfType))),
     }
 }
@@ -54,16 +49,15 @@ pub fn descriptor_native(
 pub fn super_native(
     world: &mut World,
     native: SuperNative,
-    args: &[PyObjectRef],
-    kw: &[(PyStrInterned, PyObjectRef)],
+    call: FuncArgs<'_>,
 ) -> Result<Result<Answer, Raised>, OutOfMemory>
-    requires { Holds world.old (AreNodes args.now) }
-    ensures ends { IfOk result (λ r. EndsAs (λ t u. super_say u native args.now (bindings t kw.now))
+    requires { Holds world.old (AreNodes call.args.now) }
+    ensures ends { IfOk result (λ r. EndsAs (λ t u. super_say u native call.args.now (bindings t call.kw.now))
         world.old world.new r) }
     ensures safe { LeavesEnd world.old world.new result }
 {
     match native {
-        SuperNative::Repr => super_repr(world, args, kw),
+        SuperNative::Repr => super_repr(world, call),
         _ => Ok(Err(Raised::new(Cause::SelfType))),
     }
 }
@@ -72,16 +66,15 @@ pub fn super_native(
 pub fn wrapper_native(
     world: &mut World,
     native: WrapperNative,
-    args: &[PyObjectRef],
-    kw: &[(PyStrInterned, PyObjectRef)],
+    call: FuncArgs<'_>,
 ) -> Result<Result<Answer, Raised>, OutOfMemory>
-    requires { Holds world.old (AreNodes args.now) }
-    ensures ends { IfOk result (λ r. EndsAs (λ t u. wrapper_say u native args.now (bindings t kw.now))
+    requires { Holds world.old (AreNodes call.args.now) }
+    ensures ends { IfOk result (λ r. EndsAs (λ t u. wrapper_say u native call.args.now (bindings t call.kw.now))
         world.old world.new r) }
     ensures safe { LeavesEnd world.old world.new result }
 {
     match native {
-        WrapperNative::StaticInit => Ok(static_init(world, args, kw)),
+        WrapperNative::StaticInit => Ok(static_init(world, call)),
         _ => Ok(Err(Raised::new(Cause::SelfType))),
     }
 }
@@ -89,18 +82,17 @@ pub fn wrapper_native(
 // The text of a native as a method: its name and its class.
 fn method_repr(
     world: &mut World,
-    args: &[PyObjectRef],
-    kw: &[(PyStrInterned, PyObjectRef)],
+    call: FuncArgs<'_>,
 ) -> Result<Result<Answer, Raised>, OutOfMemory>
-    requires { Holds world.old (AreNodes args.now) }
-    ensures ends { IfOk result (λ r. EndsAs (λ t u. method_repr u args.now (bindings t kw.now)) world.old world.new r) }
+    requires { Holds world.old (AreNodes call.args.now) }
+    ensures ends { IfOk result (λ r. EndsAs (λ t u. method_repr u call.args.now (bindings t call.kw.now)) world.old world.new r) }
     ensures safe { LeavesEnd world.old world.new result }
 {
-    let (_object, (class, name)) = match own_method(world, args) {
+    let (_object, (class, name)) = match own_method(world, call.args) {
         Err(raised) => return Ok(Err(raised)),
         Ok(method) => method,
     };
-    if let Err(raised) = one(args, kw) {
+    if let Err(raised) = one(call) {
         return Ok(Err(raised));
     }
     let text = method_text(world, class, name)?;
@@ -110,18 +102,17 @@ fn method_repr(
 // The text of a member: its name and its class.
 fn member_repr(
     world: &mut World,
-    args: &[PyObjectRef],
-    kw: &[(PyStrInterned, PyObjectRef)],
+    call: FuncArgs<'_>,
 ) -> Result<Result<Answer, Raised>, OutOfMemory>
-    requires { Holds world.old (AreNodes args.now) }
-    ensures ends { IfOk result (λ r. EndsAs (λ t u. member_repr u args.now (bindings t kw.now)) world.old world.new r) }
+    requires { Holds world.old (AreNodes call.args.now) }
+    ensures ends { IfOk result (λ r. EndsAs (λ t u. member_repr u call.args.now (bindings t call.kw.now)) world.old world.new r) }
     ensures safe { LeavesEnd world.old world.new result }
 {
-    let (_object, (class, name)) = match own_member(world, args) {
+    let (_object, (class, name)) = match own_member(world, call.args) {
         Err(raised) => return Ok(Err(raised)),
         Ok(member) => member,
     };
-    if let Err(raised) = one(args, kw) {
+    if let Err(raised) = one(call) {
         return Ok(Err(raised));
     }
     let text = member_text(world, class, name)?;
@@ -157,18 +148,17 @@ fn member_text(world: &World, class: PyTypeRef, name: PyStrInterned) -> Result<S
 // The text of a `super`: the class past which it looks, and the class where it starts.
 fn super_repr(
     world: &mut World,
-    args: &[PyObjectRef],
-    kw: &[(PyStrInterned, PyObjectRef)],
+    call: FuncArgs<'_>,
 ) -> Result<Result<Answer, Raised>, OutOfMemory>
-    requires { Holds world.old (AreNodes args.now) }
-    ensures ends { IfOk result (λ r. EndsAs (λ t u. super_repr u args.now (bindings t kw.now)) world.old world.new r) }
+    requires { Holds world.old (AreNodes call.args.now) }
+    ensures ends { IfOk result (λ r. EndsAs (λ t u. super_repr u call.args.now (bindings t call.kw.now)) world.old world.new r) }
     ensures safe { LeavesEnd world.old world.new result }
 {
-    let (_object, own) = match own_super(world, args) {
+    let (_object, own) = match own_super(world, call.args) {
         Err(raised) => return Ok(Err(raised)),
         Ok(own) => own,
     };
-    if let Err(raised) = one(args, kw) {
+    if let Err(raised) = one(call) {
         return Ok(Err(raised));
     }
     let text = super_text(world, own)?;
@@ -203,16 +193,15 @@ fn bound_text(alloc: Global, past: &str, start: Option<&str>) -> Result<String, 
 // A static method wraps the callable that it is given.
 fn static_init(
     world: &mut World,
-    args: &[PyObjectRef],
-    kw: &[(PyStrInterned, PyObjectRef)],
+    call: FuncArgs<'_>,
 ) -> Result<Answer, Raised>
-    requires { Holds world.old (AreNodes args.now) }
-    ensures ends { EndsAs (λ t u. static_init u args.now (bindings t kw.now)) world.old world.new result }
+    requires { Holds world.old (AreNodes call.args.now) }
+    ensures ends { EndsAs (λ t u. static_init u call.args.now (bindings t call.kw.now)) world.old world.new result }
     ensures grows { Grows world.old world.new }
     ensures holds { AllHold world.new (of_ended result) }
 {
-    let (object, _old) = own_static(world, args)?;
-    let (_, callable) = two(args, kw)?;
+    let (object, _old) = own_static(world, call.args)?;
+    let (_, callable) = two(call)?;
     world.set_payload(object, Payload::StaticMethod(callable));
     Ok(Answer::Value(world.fixed(Fixed::None)))
 }

@@ -7,10 +7,7 @@ ghost use Rattle.proto_attr.specs.NativeObjects.DetailParts.{of_part, read_part}
 
 use class_world::takes::one;
 use class_world::{Fixed, World};
-use py_node::{
-    Answer, BuiltIn, Cause, Detail, OutOfMemory, Payload, PyObjectRef, PyProperty, PySlice,
-    PyStrInterned, PySuper, PyTypeRef, Raised,
-};
+use py_node::{Answer, BuiltIn, Cause, Detail, FuncArgs, OutOfMemory, Payload, PyObjectRef, PyProperty, PySlice, PyStrInterned, PySuper, PyTypeRef, Raised};
 use row_kit::class_names::limited_text;
 use row_kit::signatures::get_text_signature_from_internal_doc;
 
@@ -35,19 +32,18 @@ pub fn getter_of_native(
     world: &mut World,
     class: BuiltIn,
     detail: Detail,
-    args: &[PyObjectRef],
-    kw: &[(PyStrInterned, PyObjectRef)],
+    call: FuncArgs<'_>,
 ) -> Result<Result<Answer, Raised>, OutOfMemory>
-    requires { Holds world.old (AreNodes args.now) }
-    ensures ends { IfOk result (λ r. EndsAs (λ t u. getter_of_say u class detail args.now (bindings t kw.now))
+    requires { Holds world.old (AreNodes call.args.now) }
+    ensures ends { IfOk result (λ r. EndsAs (λ t u. getter_of_say u class detail call.args.now (bindings t call.kw.now))
         world.old world.new r) }
     ensures safe { LeavesEnd world.old world.new result }
 {
-    let (_object, part) = match own_part(world, class, detail, args) {
+    let (_object, part) = match own_part(world, class, detail, call.args) {
         Err(raised) => return Ok(Err(raised)),
         Ok(own) => own,
     };
-    if let Err(raised) = one(args, kw) {
+    if let Err(raised) = one(call) {
         return Ok(Err(raised));
     }
     give_part(world, part)

@@ -8,10 +8,7 @@ ghost use Rattle.proto_attr.specs.NativeObjects.Getters.{class_read, dict_or_fau
 use crate::native_objects::attributes::{annotations, class_dict};
 use class_world::takes::one;
 use class_world::{Fixed, World};
-use py_node::{
-    Answer, BuiltIn, Cause, Known, OutOfMemory, Payload, Property, PyObjectRef, PyStrInterned,
-    PyTypeRef, Raised,
-};
+use py_node::{Answer, BuiltIn, Cause, FuncArgs, Known, OutOfMemory, Payload, Property, PyObjectRef, PyTypeRef, Raised};
 use row_kit::class_names::{given, limited_text};
 use row_kit::class_nodes::class_nodes;
 use row_kit::give::{new_int, new_sized};
@@ -21,18 +18,17 @@ use row_kit::take_classes::lone_class;
 pub fn getter_native(
     world: &mut World,
     property: Property,
-    args: &[PyObjectRef],
-    kw: &[(PyStrInterned, PyObjectRef)],
+    call: FuncArgs<'_>,
 ) -> Result<Result<Answer, Raised>, OutOfMemory>
-    requires { Holds world.old (AreNodes args.now) }
-    ensures ends { IfOk result (λ r. EndsAs (λ t u. getter_say u property args.now (bindings t kw.now))
+    requires { Holds world.old (AreNodes call.args.now) }
+    ensures ends { IfOk result (λ r. EndsAs (λ t u. getter_say u property call.args.now (bindings t call.kw.now))
         world.old world.new r) }
     ensures safe { LeavesEnd world.old world.new result }
 {
     match property {
-        Property::Class => Ok(class_of_any(world, args, kw)),
-        Property::InstanceDict => dict_of_any(world, args, kw),
-        property => match lone_class(world, args, kw) {
+        Property::Class => Ok(class_of_any(world, call)),
+        Property::InstanceDict => dict_of_any(world, call),
+        property => match lone_class(world, call) {
             Err(raised) => Ok(Err(raised)),
             Ok(class) => class_read(world, property, class),
         },
@@ -42,29 +38,27 @@ pub fn getter_native(
 // The class of an object.
 fn class_of_any(
     world: &World,
-    args: &[PyObjectRef],
-    kw: &[(PyStrInterned, PyObjectRef)],
+    call: FuncArgs<'_>,
 ) -> Result<Answer, Raised>
-    requires { Holds world.now (AreNodes args.now) }
-    ensures ends { EndsAs (λ t u. getter_say u Property.Class args.now (bindings t kw.now)) world.now world.now result }
+    requires { Holds world.now (AreNodes call.args.now) }
+    ensures ends { EndsAs (λ t u. getter_say u Property.Class call.args.now (bindings t call.kw.now)) world.now world.now result }
     ensures holds { AllHold world.now (of_ended result) }
 {
-    let object = one(args, kw)?;
+    let object = one(call)?;
     Ok(Answer::Value(world.type_object(object)))
 }
 
 // The dict of an object, which for a class is that of its attributes.
 fn dict_of_any(
     world: &mut World,
-    args: &[PyObjectRef],
-    kw: &[(PyStrInterned, PyObjectRef)],
+    call: FuncArgs<'_>,
 ) -> Result<Result<Answer, Raised>, OutOfMemory>
-    requires { Holds world.old (AreNodes args.now) }
-    ensures ends { IfOk result (λ r. EndsAs (λ t u. getter_say u Property.InstanceDict args.now (bindings t kw.now))
+    requires { Holds world.old (AreNodes call.args.now) }
+    ensures ends { IfOk result (λ r. EndsAs (λ t u. getter_say u Property.InstanceDict call.args.now (bindings t call.kw.now))
         world.old world.new r) }
     ensures safe { LeavesEnd world.old world.new result }
 {
-    let object = match one(args, kw) {
+    let object = match one(call) {
         Err(raised) => return Ok(Err(raised)),
         Ok(object) => object,
     };

@@ -8,26 +8,23 @@ use crate::native_objects::class_setters::{set_annotations, set_module, set_name
 use crate::native_objects::rebase::set_bases;
 use crate::native_objects::take::{class_and_given, one_or_two};
 use class_world::{Fixed, World};
-use py_node::{
-    Answer, Cause, OutOfMemory, Payload, Property, PyObjectRef, PyStrInterned, PyTypeRef, Raised,
-};
+use py_node::{Answer, Cause, FuncArgs, OutOfMemory, Payload, Property, PyObjectRef, PyTypeRef, Raised};
 
 /// What is set of any object, or of a class.
 pub fn setter_native(
     world: &mut World,
     property: Property,
-    args: &[PyObjectRef],
-    kw: &[(PyStrInterned, PyObjectRef)],
+    call: FuncArgs<'_>,
 ) -> Result<Result<Answer, Raised>, OutOfMemory>
-    requires { Holds world.old (AreNodes args.now) }
-    ensures ends { IfOk result (λ r. EndsAs (λ t u. setter_say u property args.now (bindings t kw.now))
+    requires { Holds world.old (AreNodes call.args.now) }
+    ensures ends { IfOk result (λ r. EndsAs (λ t u. setter_say u property call.args.now (bindings t call.kw.now))
         world.old world.new r) }
     ensures safe { LeavesEnd world.old world.new result }
 {
     match property {
-        Property::Class => Ok(class_of_any(world, args, kw)),
-        Property::InstanceDict => Ok(dict_of_any(world, args, kw)),
-        property => match class_and_given(world, args, kw) {
+        Property::Class => Ok(class_of_any(world, call)),
+        Property::InstanceDict => Ok(dict_of_any(world, call)),
+        property => match class_and_given(world, call) {
             Err(raised) => Ok(Err(raised)),
             Ok((class, given)) => class_written(world, property, class, given),
         },
@@ -37,15 +34,14 @@ pub fn setter_native(
 // The class of an object.
 fn class_of_any(
     world: &mut World,
-    args: &[PyObjectRef],
-    kw: &[(PyStrInterned, PyObjectRef)],
+    call: FuncArgs<'_>,
 ) -> Result<Answer, Raised>
-    requires { Holds world.old (AreNodes args.now) }
-    ensures ends { EndsAs (λ t u. setter_say u Property.Class args.now (bindings t kw.now)) world.old world.new result }
+    requires { Holds world.old (AreNodes call.args.now) }
+    ensures ends { EndsAs (λ t u. setter_say u Property.Class call.args.now (bindings t call.kw.now)) world.old world.new result }
     ensures grows { Grows world.old world.new }
     ensures holds { AllHold world.new (of_ended result) }
 {
-    match one_or_two(args, kw) {
+    match one_or_two(call) {
         Err(raised) => Err(raised),
         Ok((object, given)) => set_class(world, object, given),
     }
@@ -54,16 +50,15 @@ fn class_of_any(
 // The dict of an object, which for a class is that of its attributes.
 fn dict_of_any(
     world: &mut World,
-    args: &[PyObjectRef],
-    kw: &[(PyStrInterned, PyObjectRef)],
+    call: FuncArgs<'_>,
 ) -> Result<Answer, Raised>
-    requires { Holds world.old (AreNodes args.now) }
-    ensures ends { EndsAs (λ t u. setter_say u Property.InstanceDict args.now (bindings t kw.now))
+    requires { Holds world.old (AreNodes call.args.now) }
+    ensures ends { EndsAs (λ t u. setter_say u Property.InstanceDict call.args.now (bindings t call.kw.now))
         world.old world.new result }
     ensures grows { Grows world.old world.new }
     ensures holds { AllHold world.new (of_ended result) }
 {
-    match one_or_two(args, kw) {
+    match one_or_two(call) {
         Err(raised) => Err(raised),
         Ok((object, given)) => set_dict(world, object, given),
     }

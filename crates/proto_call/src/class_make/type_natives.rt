@@ -7,10 +7,7 @@ ghost use Rattle.proto_call.specs.ClassMake.TypeNatives.{type_dir, class_text, w
 
 use class_world::takes::two;
 use class_world::{Fixed, World};
-use py_node::{
-    Answer, BuiltIn, Cause, OutOfMemory, Payload, PyDict, PyObjectRef, PyStrInterned, PyTypeRef,
-    Raised, TypeNative,
-};
+use py_node::{Answer, BuiltIn, Cause, FuncArgs, OutOfMemory, Payload, PyDict, PyObjectRef, PyTypeRef, Raised, TypeNative};
 use row_kit::class_attributes::key_all;
 use row_kit::class_names::{in_module, limited_text, module_of, qualname};
 use row_kit::class_nodes::class_nodes;
@@ -21,14 +18,13 @@ use std::alloc::Global;
 /// The names of a class's attributes, its own and those that it inherits, as a new list.
 pub(crate) fn type_dir(
     world: &mut World,
-    args: &[PyObjectRef],
-    kw: &[(PyStrInterned, PyObjectRef)],
+    call: FuncArgs<'_>,
 ) -> Result<Result<Answer, Raised>, OutOfMemory>
-    requires { Holds world.old (AreNodes args.now) }
-    ensures ends { IfOk result (λ r. EndsAs (λ t u. type_dir u args.now (bindings t kw.now)) world.old world.new r) }
+    requires { Holds world.old (AreNodes call.args.now) }
+    ensures ends { IfOk result (λ r. EndsAs (λ t u. type_dir u call.args.now (bindings t call.kw.now)) world.old world.new r) }
     ensures safe { LeavesEnd world.old world.new result }
 {
-    let class = match lone_class(world, args, kw) {
+    let class = match lone_class(world, call) {
         Err(raised) => return Ok(Err(raised)),
         Ok(class) => class,
     };
@@ -72,19 +68,18 @@ pub(crate) fn class_text(world: &World, class: PyTypeRef) -> Result<String, OutO
 /// The class that the first argument is, and the second argument, or why the arguments are refused.
 pub(crate) fn class_and(
     world: &World,
-    args: &[PyObjectRef],
-    kw: &[(PyStrInterned, PyObjectRef)],
+    call: FuncArgs<'_>,
 ) -> Result<(PyTypeRef, PyObjectRef), Raised>
-    requires { Holds world.now (AreNodes args.now) }
+    requires { Holds world.now (AreNodes call.args.now) }
     ensures given { IfOk result (λ p. (t : Reading) (go : ℕ → Object → Said) →
-        with_class_and (plain t world.now) args.now (bindings t kw.now) go ≡ go p.0.0 p.1) }
+        with_class_and (plain t world.now) call.args.now (bindings t call.kw.now) go ≡ go p.0.0 p.1) }
     ensures refused { IfErr result (λ x. (t : Reading) (go : ℕ → Object → Said) →
-        with_class_and (plain t world.now) args.now (bindings t kw.now) go ≡ Ends (plain t world.now) (Err x)) }
+        with_class_and (plain t world.now) call.args.now (bindings t call.kw.now) go ≡ Ends (plain t world.now) (Err x)) }
     ensures class { IfOk result (λ p. Holds world.now (IsClass p.0.0)) }
     ensures node { IfOk result (λ p. Holds world.now (IsNode p.1)) }
 {
-    let class = own_class(world, args)?;
-    let (_, other) = two(args, kw)?;
+    let class = own_class(world, call.args)?;
+    let (_, other) = two(call)?;
     Ok((class, other))
 }
 
@@ -92,23 +87,22 @@ pub(crate) fn class_and(
 pub fn type_native(
     world: &mut World,
     native: TypeNative,
-    args: &[PyObjectRef],
-    kw: &[(PyStrInterned, PyObjectRef)],
+    call: FuncArgs<'_>,
 ) -> Result<Result<Answer, Raised>, OutOfMemory>
-    requires { Holds world.old (AreNodes args.now) }
-    ensures ends { IfOk result (λ r. EndsAs (λ t u. type_native_say u native args.now (bindings t kw.now))
+    requires { Holds world.old (AreNodes call.args.now) }
+    ensures ends { IfOk result (λ r. EndsAs (λ t u. type_native_say u native call.args.now (bindings t call.kw.now))
         world.old world.new r) }
     ensures safe { LeavesEnd world.old world.new result }
 {
     match native {
-        TypeNative::Repr => type_repr(world, args, kw),
-        TypeNative::InstanceCheck => Ok(instance_check(world, args, kw)),
-        TypeNative::SubclassCheck => Ok(subclass_check(world, args, kw)),
-        TypeNative::Subclasses => type_subclasses(world, args, kw),
-        TypeNative::Dir => type_dir(world, args, kw),
-        TypeNative::Mro => type_mro(world, args, kw),
-        TypeNative::Prepare => type_prepare(world, args),
-        TypeNative::SubclassHook => Ok(type_subclass_hook(world, args)),
+        TypeNative::Repr => type_repr(world, call),
+        TypeNative::InstanceCheck => Ok(instance_check(world, call)),
+        TypeNative::SubclassCheck => Ok(subclass_check(world, call)),
+        TypeNative::Subclasses => type_subclasses(world, call),
+        TypeNative::Dir => type_dir(world, call),
+        TypeNative::Mro => type_mro(world, call),
+        TypeNative::Prepare => type_prepare(world, call.args),
+        TypeNative::SubclassHook => Ok(type_subclass_hook(world, call.args)),
         _ => Ok(Err(Raised::new(Cause::SelfType))),
     }
 }
@@ -116,14 +110,13 @@ pub fn type_native(
 // The text of a class.
 fn type_repr(
     world: &mut World,
-    args: &[PyObjectRef],
-    kw: &[(PyStrInterned, PyObjectRef)],
+    call: FuncArgs<'_>,
 ) -> Result<Result<Answer, Raised>, OutOfMemory>
-    requires { Holds world.old (AreNodes args.now) }
-    ensures ends { IfOk result (λ r. EndsAs (λ t u. type_repr u args.now (bindings t kw.now)) world.old world.new r) }
+    requires { Holds world.old (AreNodes call.args.now) }
+    ensures ends { IfOk result (λ r. EndsAs (λ t u. type_repr u call.args.now (bindings t call.kw.now)) world.old world.new r) }
     ensures safe { LeavesEnd world.old world.new result }
 {
-    match lone_class(world, args, kw) {
+    match lone_class(world, call) {
         Err(raised) => Ok(Err(raised)),
         Ok(class) => {
             let text = class_text(world, class)?;
@@ -135,28 +128,26 @@ fn type_repr(
 // Whether the class of an object derives from a class.
 fn instance_check(
     world: &World,
-    args: &[PyObjectRef],
-    kw: &[(PyStrInterned, PyObjectRef)],
+    call: FuncArgs<'_>,
 ) -> Result<Answer, Raised>
-    requires { Holds world.now (AreNodes args.now) }
-    ensures ends { EndsAs (λ t u. instance_check u args.now (bindings t kw.now)) world.now world.now result }
+    requires { Holds world.now (AreNodes call.args.now) }
+    ensures ends { EndsAs (λ t u. instance_check u call.args.now (bindings t call.kw.now)) world.now world.now result }
     ensures holds { AllHold world.now (of_ended result) }
 {
-    let (class, object) = class_and(world, args, kw)?;
+    let (class, object) = class_and(world, call)?;
     Ok(Answer::Value(world.truth(world.is_instance(object, class))))
 }
 
 // Whether a class derives from another one.
 fn subclass_check(
     world: &World,
-    args: &[PyObjectRef],
-    kw: &[(PyStrInterned, PyObjectRef)],
+    call: FuncArgs<'_>,
 ) -> Result<Answer, Raised>
-    requires { Holds world.now (AreNodes args.now) }
-    ensures ends { EndsAs (λ t u. subclass_check u args.now (bindings t kw.now)) world.now world.now result }
+    requires { Holds world.now (AreNodes call.args.now) }
+    ensures ends { EndsAs (λ t u. subclass_check u call.args.now (bindings t call.kw.now)) world.now world.now result }
     ensures holds { AllHold world.now (of_ended result) }
 {
-    let (class, other) = class_and(world, args, kw)?;
+    let (class, other) = class_and(world, call)?;
     match world.class_number(other) {
         None => Err(Raised::new(Cause::SelfType)),
         Some(other) => Ok(Answer::Value(world.truth(world.is_sub(other, class)))),
@@ -166,15 +157,14 @@ fn subclass_check(
 // The classes that have a class among their bases.
 fn type_subclasses(
     world: &mut World,
-    args: &[PyObjectRef],
-    kw: &[(PyStrInterned, PyObjectRef)],
+    call: FuncArgs<'_>,
 ) -> Result<Result<Answer, Raised>, OutOfMemory>
-    requires { Holds world.old (AreNodes args.now) }
-    ensures ends { IfOk result (λ r. EndsAs (λ t u. type_subclasses u args.now (bindings t kw.now))
+    requires { Holds world.old (AreNodes call.args.now) }
+    ensures ends { IfOk result (λ r. EndsAs (λ t u. type_subclasses u call.args.now (bindings t call.kw.now))
         world.old world.new r) }
     ensures safe { LeavesEnd world.old world.new result }
 {
-    match lone_class(world, args, kw) {
+    match lone_class(world, call) {
         Err(raised) => Ok(Err(raised)),
         Ok(class) => {
             let nodes = class_nodes(world, world.classes().subclasses(class))?;
@@ -186,14 +176,13 @@ fn type_subclasses(
 // The linearisation of a class.
 fn type_mro(
     world: &mut World,
-    args: &[PyObjectRef],
-    kw: &[(PyStrInterned, PyObjectRef)],
+    call: FuncArgs<'_>,
 ) -> Result<Result<Answer, Raised>, OutOfMemory>
-    requires { Holds world.old (AreNodes args.now) }
-    ensures ends { IfOk result (λ r. EndsAs (λ t u. type_mro u args.now (bindings t kw.now)) world.old world.new r) }
+    requires { Holds world.old (AreNodes call.args.now) }
+    ensures ends { IfOk result (λ r. EndsAs (λ t u. type_mro u call.args.now (bindings t call.kw.now)) world.old world.new r) }
     ensures safe { LeavesEnd world.old world.new result }
 {
-    match lone_class(world, args, kw) {
+    match lone_class(world, call) {
         Err(raised) => Ok(Err(raised)),
         Ok(class) => {
             let nodes = class_nodes(world, world.classes().mro(class))?;

@@ -10,9 +10,7 @@ use crate::native_numbers::reckon::{
 use class_world::args::both;
 use class_world::takes::three;
 use class_world::{Fixed, World};
-use py_node::{
-    Answer, ArithmeticNative, BuiltIn, OutOfMemory, Payload, PyObjectRef, PyStrInterned, Raised,
-};
+use py_node::{Answer, ArithmeticNative, BuiltIn, FuncArgs, OutOfMemory, Payload, Raised};
 use row_kit::give::new_int;
 use row_kit::take::{numbers, numbers_of};
 
@@ -20,15 +18,14 @@ use row_kit::take::{numbers, numbers_of};
 pub fn arithmetic_native(
     world: &mut World,
     native: ArithmeticNative,
-    args: &[PyObjectRef],
-    kw: &[(PyStrInterned, PyObjectRef)],
+    call: FuncArgs<'_>,
 ) -> Result<Result<Answer, Raised>, OutOfMemory>
-    requires { Holds world.old (AreNodes args.now) }
-    ensures ends { IfOk result (λ r. EndsAs (λ t u. arithmetic_say u native args.now (bindings t kw.now))
+    requires { Holds world.old (AreNodes call.args.now) }
+    ensures ends { IfOk result (λ r. EndsAs (λ t u. arithmetic_say u native call.args.now (bindings t call.kw.now))
         world.old world.new r) }
     ensures safe { LeavesEnd world.old world.new result }
 {
-    match operands(world, native, args, kw) {
+    match operands(world, native, call) {
         Err(answer) => Ok(answer),
         Ok((x, y)) => arithmetic_by(world, native, x, y),
     }
@@ -38,41 +35,39 @@ pub fn arithmetic_native(
 fn operands(
     world: &World,
     native: ArithmeticNative,
-    args: &[PyObjectRef],
-    kw: &[(PyStrInterned, PyObjectRef)],
+    call: FuncArgs<'_>,
 ) -> Result<(i128, i128), Result<Answer, Raised>>
-    requires { Holds world.now (AreNodes args.now) }
+    requires { Holds world.now (AreNodes call.args.now) }
     ensures given { IfOk result (λ p. (t : Reading) (go : ℤ → ℤ → Said) →
-        with_operands (plain t world.now) native args.now (bindings t kw.now) go ≡ go p.0 p.1) }
+        with_operands (plain t world.now) native call.args.now (bindings t call.kw.now) go ≡ go p.0 p.1) }
     ensures ended { IfErr result (λ r. (t : Reading) (go : ℤ → ℤ → Said) →
-        with_operands (plain t world.now) native args.now (bindings t kw.now) go ≡
+        with_operands (plain t world.now) native call.args.now (bindings t call.kw.now) go ≡
         Ends (plain t world.now) (ended_of r)) }
     ensures holds { IfErr result (λ r. AllHold world.now (of_ended r)) }
 {
     match native {
-        ArithmeticNative::Power => powers(world, args, kw),
-        ArithmeticNative::RightPower => powers(world, args, kw),
-        _ => numbers(world, args, kw),
+        ArithmeticNative::Power => powers(world, call),
+        ArithmeticNative::RightPower => powers(world, call),
+        _ => numbers(world, call),
     }
 }
 
 // The two numbers of a power. There may be a third operand, where the native is for None alone.
 fn powers(
     world: &World,
-    args: &[PyObjectRef],
-    kw: &[(PyStrInterned, PyObjectRef)],
+    call: FuncArgs<'_>,
 ) -> Result<(i128, i128), Result<Answer, Raised>>
-    requires { Holds world.now (AreNodes args.now) }
+    requires { Holds world.now (AreNodes call.args.now) }
     ensures given { IfOk result (λ p. (t : Reading) (go : ℤ → ℤ → Said) →
-        with_powers (plain t world.now) args.now (bindings t kw.now) go ≡ go p.0 p.1) }
+        with_powers (plain t world.now) call.args.now (bindings t call.kw.now) go ≡ go p.0 p.1) }
     ensures ended { IfErr result (λ r. (t : Reading) (go : ℤ → ℤ → Said) →
-        with_powers (plain t world.now) args.now (bindings t kw.now) go ≡ Ends (plain t world.now) (ended_of r)) }
+        with_powers (plain t world.now) call.args.now (bindings t call.kw.now) go ≡ Ends (plain t world.now) (ended_of r)) }
     ensures holds { IfErr result (λ r. AllHold world.now (of_ended r)) }
 {
-    if args.len() != 3 {
-        return numbers(world, args, kw);
+    if call.args.len() != 3 {
+        return numbers(world, call);
     }
-    match three(args, kw) {
+    match three(call) {
         Err(raised) => Err(Err(raised)),
         Ok((a, b, c)) => match numbers_of(world, a, b) {
             Err(answer) => Err(answer),

@@ -7,7 +7,7 @@ ghost use Rattle.proto_ops.specs.NativeNumbers.Say.{bits_by, bits_of, bits_say, 
 use crate::native_numbers::reckon::{left_shifted, right_shifted};
 use class_world::World;
 use class_world::takes::two;
-use py_node::{Answer, BitNative, OutOfMemory, PyObjectRef, PyStrInterned, Raised};
+use py_node::{Answer, BitNative, FuncArgs, OutOfMemory, PyObjectRef, Raised};
 use row_kit::give::new_int;
 use row_kit::int_values::truth_of;
 use row_kit::take::numbers_of;
@@ -16,15 +16,14 @@ use row_kit::take::numbers_of;
 pub fn bits_native(
     world: &mut World,
     native: BitNative,
-    args: &[PyObjectRef],
-    kw: &[(PyStrInterned, PyObjectRef)],
+    call: FuncArgs<'_>,
 ) -> Result<Result<Answer, Raised>, OutOfMemory>
-    requires { Holds world.old (AreNodes args.now) }
-    ensures ends { IfOk result (λ r. EndsAs (λ t u. bits_say u native args.now (bindings t kw.now))
+    requires { Holds world.old (AreNodes call.args.now) }
+    ensures ends { IfOk result (λ r. EndsAs (λ t u. bits_say u native call.args.now (bindings t call.kw.now))
         world.old world.new r) }
     ensures safe { LeavesEnd world.old world.new result }
 {
-    match two(args, kw) {
+    match two(call) {
         Err(raised) => Ok(Err(raised)),
         Ok((a, b)) => bits_of(world, native, a, b),
     }

@@ -6,21 +6,20 @@ ghost use Rattle.proto_ops.specs.NativeNumbers.Say.{fixed_first, fixed_of, fixed
 
 use class_world::takes::one;
 use class_world::{Fixed, World};
-use py_node::{Answer, Cause, FixedNative, OutOfMemory, PyObjectRef, PyStrInterned, Raised};
+use py_node::{Answer, Cause, FixedNative, FuncArgs, OutOfMemory, PyObjectRef, Raised};
 use row_kit::give::new_word;
 
 /// A native of None or NotImplemented.
 pub fn fixed_native(
     world: &mut World,
     native: FixedNative,
-    args: &[PyObjectRef],
-    kw: &[(PyStrInterned, PyObjectRef)],
+    call: FuncArgs<'_>,
 ) -> Result<Result<Answer, Raised>, OutOfMemory>
-    ensures ends { IfOk result (λ r. EndsAs (λ t u. fixed_say u native args.now (bindings t kw.now))
+    ensures ends { IfOk result (λ r. EndsAs (λ t u. fixed_say u native call.args.now (bindings t call.kw.now))
         world.old world.new r) }
     ensures safe { LeavesEnd world.old world.new result }
 {
-    if let Some(raised) = refusal(native, args, kw) {
+    if let Some(raised) = refusal(native, call) {
         return Ok(Err(raised));
     }
     match native {
@@ -33,18 +32,17 @@ pub fn fixed_native(
 // Why the arguments are refused: just the native's own object is wanted.
 fn refusal(
     native: FixedNative,
-    args: &[PyObjectRef],
-    kw: &[(PyStrInterned, PyObjectRef)],
+    call: FuncArgs<'_>,
 ) -> Option<Raised>
     ensures taken { IfNone result ((t : Reading) (w : PlainWorld) (go : Said) →
-        with_fixed w (fixed_of native) args.now (bindings t kw.now) go ≡ go) }
+        with_fixed w (fixed_of native) call.args.now (bindings t call.kw.now) go ≡ go) }
     ensures refused { IfSome result (λ x. (t : Reading) (w : PlainWorld) (go : Said) →
-        with_fixed w (fixed_of native) args.now (bindings t kw.now) go ≡ Ends w (Err x)) }
+        with_fixed w (fixed_of native) call.args.now (bindings t call.kw.now) go ≡ Ends w (Err x)) }
 {
-    if let Some(raised) = other_object(native, args) {
+    if let Some(raised) = other_object(native, call.args) {
         return Some(raised);
     }
-    match one(args, kw) {
+    match one(call) {
         Err(raised) => Some(raised),
         Ok(_) => None,
     }

@@ -5,7 +5,7 @@ ghost use Rattle.proto_ops.specs.NativeNumbers.Say.{number_by, number_say};
 
 use crate::native_numbers::reckon::{absolute, inverted, negated};
 use class_world::World;
-use py_node::{Answer, NumberNative, OutOfMemory, PyObjectRef, PyStrInterned, Raised};
+use py_node::{Answer, FuncArgs, NumberNative, OutOfMemory, PyObjectRef, Raised};
 use row_kit::give::{new_int, new_text, new_word};
 use row_kit::int_values::{as_int, number_hash};
 use row_kit::take::lone_number;
@@ -14,15 +14,14 @@ use row_kit::take::lone_number;
 pub fn number_native(
     world: &mut World,
     native: NumberNative,
-    args: &[PyObjectRef],
-    kw: &[(PyStrInterned, PyObjectRef)],
+    call: FuncArgs<'_>,
 ) -> Result<Result<Answer, Raised>, OutOfMemory>
-    requires { Holds world.old (AreNodes args.now) }
-    ensures ends { IfOk result (λ r. EndsAs (λ t u. number_say u native args.now (bindings t kw.now))
+    requires { Holds world.old (AreNodes call.args.now) }
+    ensures ends { IfOk result (λ r. EndsAs (λ t u. number_say u native call.args.now (bindings t call.kw.now))
         world.old world.new r) }
     ensures safe { LeavesEnd world.old world.new result }
 {
-    match lone_number(world, args, kw) {
+    match lone_number(world, call) {
         Err(raised) => Ok(Err(raised)),
         Ok((o, z)) => number_by(world, native, o, z),
     }
