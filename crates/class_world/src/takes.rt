@@ -1,6 +1,7 @@
 //! What a native takes: so many arguments and no keyword.
 #![tactic(auto, using(crate::proofs::Items::item_holds))]
 
+ghost use Rattle.py_node.specs.Stops.{IfRaised};
 ghost use Rattle.class_world.specs.Below.{Err, IfErr, IfNone, IfOk, IfSome, string_bytes, raised, PlainWorld, Said, Ends, without_keywords, with_one, with_two, with_three, text_in, with_text, datum_at, Text, PyObjectRef as Object};
 ghost use Rattle.std.specs.Prelude.{◌≡◌};
 ghost use Rattle.class_world.specs.Held.{Held};
@@ -8,7 +9,7 @@ ghost use Rattle.class_world.specs.Reading.{Reading, Reads, bindings, plain};
 ghost use Rattle.class_world.specs.Sound.{AreNodes, IsName, IsNode, Holds, Grows};
 
 use crate::world::World;
-use py_node::{Cause, FuncArgs, OutOfMemory, Payload, PyObjectRef, PyStrInterned, Raised};
+use py_node::{Cause, FuncArgs, OutOfMemory, Payload, PyObjectRef, PyStrInterned, Raised, Stop};
 
 /// The only argument, or why the arguments are refused.
 pub fn one(call: FuncArgs<'_>) -> Result<PyObjectRef, Raised>
@@ -94,22 +95,22 @@ impl World {
     pub fn name_in(
         &mut self,
         node: PyObjectRef,
-    ) -> Result<Result<PyStrInterned, Raised>, OutOfMemory>
+    ) -> Result<PyStrInterned, Stop>
         requires { Holds self.old (IsNode node) }
-        ensures given { IfOk result (λ r. IfOk r (λ x. (t : Reading) (go : Text → Said) → Reads t self.new →
-            with_text (plain t self.old) node go ≡ go (t.text x.0))) }
-        ensures refused { IfOk result (λ r. IfErr r (λ x. (t : Reading) (go : Text → Said) →
-            with_text (plain t self.old) node go ≡ Ends (plain t self.old) (Err x))) }
+        ensures given { IfOk result (λ x. (t : Reading) (go : Text → Said) → Reads t self.new →
+            with_text (plain t self.old) node go ≡ go (t.text x.0)) }
+        ensures refused { IfRaised result (λ x. (t : Reading) (go : Text → Said) →
+            with_text (plain t self.old) node go ≡ Ends (plain t self.old) (Err x)) }
         ensures same { (t : Reading) → plain t self.new ≡ plain t self.old }
         ensures reads { (t : Reading) → Reads t self.new → Reads t self.old }
         ensures grows { Grows self.old self.new }
-        ensures name { IfOk result (λ r. IfOk r (λ x. Holds self.new (IsName x))) }
+        ensures name { IfOk result (λ x. Holds self.new (IsName x)) }
     {
         match self.text_in(node)? {
-            None => Ok(Err(Raised::new(Cause::SelfType))),
+            None => Err(Stop::raise(Cause::SelfType)),
             Some(text) => {
                 let name = self.intern(text.as_str())?;
-                Ok(Ok(name))
+                Ok(name)
             }
         }
     }

@@ -27,7 +27,7 @@ use crate::native_items::search::{contains, searched};
 use crate::native_items::set::{item_set, set_item};
 use class_world::World;
 use py_node::task::{Args, Keywords};
-use py_node::{Answer, FuncArgs, IteratorNative, ListNative, NativeEntry, OutOfMemory, PyObjectRef, Raised, Step, StrNative, TupleNative};
+use py_node::{Answer, FuncArgs, IteratorNative, ListNative, NativeEntry, OutOfMemory, PyObjectRef, Raised, Step, StrNative, TupleNative, caught};
 
 /// What a native of items keeps while it waits for an answer. Where a script may run meanwhile, this has the items
 /// that stood in the object at the start.
@@ -110,19 +110,19 @@ pub fn resume(
             Ok(Step::End(ended))
         }
         ItemKept::GettingCharacter(object) => {
-            let ended = character_given(world, object, answer)?;
+            let ended = caught(character_given(world, object, answer))?;
             Ok(Step::End(ended))
         }
         ItemKept::Setting(list, key, value, stood) => {
-            let ended = item_set(world, list, key, value, stood, answer)?;
+            let ended = caught(item_set(world, list, key, value, stood, answer))?;
             Ok(Step::End(ended))
         }
         ItemKept::Deleting(list, stood) => {
-            let ended = item_deleted(world, list, stood, answer)?;
+            let ended = caught(item_deleted(world, list, stood, answer))?;
             Ok(Step::End(ended))
         }
         ItemKept::Extending(list, stood) => {
-            let ended = list_extended(world, list, stood, answer)?;
+            let ended = caught(list_extended(world, list, stood, answer))?;
             Ok(Step::End(ended))
         }
         ItemKept::Searching(needle, items, next) => Ok(searched(

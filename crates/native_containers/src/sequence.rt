@@ -1,5 +1,6 @@
 //! What tuples and lists do alike.
 
+ghost use Rattle.py_node.specs.Stops.{Ended, IfRaised};
 ghost use Rattle.native_containers.specs.Below.{Err, IfErr, IfOk, List, Said, Ends, PyObjectRef as Object, Reading, bindings, plain, of_ended, AllHold, AreNodes, Holds, EndsAs, LeavesEnd, iterator_made, items_at};
 ghost use Rattle.std.specs.Prelude.{◌≡◌, ◌++◌};
 ghost use Rattle.native_containers.specs.Say.{counted, with_joined};
@@ -9,7 +10,7 @@ use crate::take::{lone, own_and};
 use class_world::World;
 use class_world::limits::is_within_limit;
 use py_node::task::Args;
-use py_node::{Answer, Cause, FuncArgs, OutOfMemory, PyObjectRef, Raised};
+use py_node::{Answer, Cause, FuncArgs, OutOfMemory, PyObjectRef, Raised, Stop};
 use row_kit::give::new_iterator;
 use row_kit::take_containers::{Kind, is_of, items};
 use std::alloc::Global;
@@ -34,16 +35,14 @@ pub(crate) fn iter(
     world: &mut World,
     kind: Kind,
     call: FuncArgs<'_>,
-) -> Result<Result<Answer, Raised>, OutOfMemory>
+) -> Result<Answer, Stop>
     requires { Holds world.old (AreNodes call.args.now) }
-    ensures ends { IfOk result (λ r. EndsAs (λ t u.
-        with_lone kind u call.args.now (bindings t call.kw.now) (iterator_made u)) world.old world.new r) }
+    ensures ends { Ended result (EndsAs (λ t u.
+        with_lone kind u call.args.now (bindings t call.kw.now) (iterator_made u)) world.old world.new) }
     ensures safe { LeavesEnd world.old world.new result }
 {
-    match lone(world, kind, call) {
-        Err(raised) => Ok(Err(raised)),
-        Ok(object) => new_iterator(world, object),
-    }
+    let object = lone(world, kind, call)?;
+    new_iterator(world, object)
 }
 
 /// The items of two objects of a kind after one another, or why there are none.
@@ -51,26 +50,23 @@ pub(crate) fn joined(
     world: &World,
     kind: Kind,
     call: FuncArgs<'_>,
-) -> Result<Result<Args, Raised>, OutOfMemory>
+) -> Result<Args, Stop>
     requires { Holds world.now (AreNodes call.args.now) }
-    ensures given { IfOk result (λ r. IfOk r (λ rs. (t : Reading) (go : List Object → Said) →
-        with_joined kind (plain t world.now) call.args.now (bindings t call.kw.now) go ≡ go rs.items)) }
-    ensures refused { IfOk result (λ r. IfErr r (λ x. (t : Reading) (go : List Object → Said) →
-        with_joined kind (plain t world.now) call.args.now (bindings t call.kw.now) go ≡ Ends (plain t world.now) (Err x))) }
-    ensures holds { IfOk result (λ r. IfOk r (λ rs. Holds world.now (AreNodes rs.items))) }
+    ensures given { IfOk result (λ rs. (t : Reading) (go : List Object → Said) →
+        with_joined kind (plain t world.now) call.args.now (bindings t call.kw.now) go ≡ go rs.items) }
+    ensures refused { IfRaised result (λ x. (t : Reading) (go : List Object → Said) →
+        with_joined kind (plain t world.now) call.args.now (bindings t call.kw.now) go ≡ Ends (plain t world.now) (Err x)) }
+    ensures holds { IfOk result (λ rs. Holds world.now (AreNodes rs.items)) }
 {
-    let (first, second) = match own_and(world, kind, call) {
-        Err(raised) => return Ok(Err(raised)),
-        Ok(pair) => pair,
-    };
+    let (first, second) = own_and(world, kind, call)?;
     if !is_of(world, kind, second) {
-        return Ok(Err(Raised::new(Cause::ConcatType)));
+        return Err(Stop::raise(Cause::ConcatType));
     }
     let all = in_one(world.alloc(), items(world, first), items(world, second))?;
     if is_within_limit(all.len()) {
-        Ok(Ok(all))
+        Ok(all)
     } else {
-        Ok(Err(Raised::new(Cause::TooLong)))
+        Err(Stop::raise(Cause::TooLong))
     }
 }
 

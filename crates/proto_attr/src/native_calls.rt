@@ -25,7 +25,7 @@ use crate::native_calls::wrap::{ask_for_doc, give_doc};
 use crate::native_calls::wrapped::part_of_wrapped;
 use class_world::{Fixed, World};
 use py_node::task::{Args, Keywords};
-use py_node::{Answer, Detail, FuncArgs, NativeEntry, OutOfMemory, PyObjectRef, PyTypeRef, Raised, Step};
+use py_node::{Answer, Detail, FuncArgs, NativeEntry, OutOfMemory, PyObjectRef, PyTypeRef, Raised, Step, caught};
 use row_kit::give::as_object;
 
 mod bind;
@@ -120,7 +120,7 @@ fn binds(
     kind: Kind,
     call: FuncArgs<'_>,
 ) -> Result<Step<NativeKept>, OutOfMemory>
-    requires call.args { Holds world.old (AreNodes call.args.now) }
+    requires args { Holds world.old (AreNodes call.args.now) }
     requires way { way_of entry ≡ Way.Binds kind }
     ensures goes { IfOk result (λ step. Does entry
         (λ t u. by_way u (Way.Binds kind) entry call.args.now (bindings t call.kw.now)) world.old world.new step) }
@@ -128,11 +128,11 @@ fn binds(
 {
     match kind {
         Kind::Function => {
-            let ended = function_get_by_name(world, call)?;
+            let ended = caught(function_get_by_name(world, call))?;
             Ok(Step::End(ended))
         }
         Kind::Native => {
-            let ended = native_get_by_name(world, call)?;
+            let ended = caught(native_get_by_name(world, call))?;
             Ok(Step::End(ended))
         }
         Kind::GetSet => {
@@ -168,7 +168,7 @@ pub fn resume(
     ensures safe { Leaves of_native_kept world.old world.new result }
 {
     match kept {
-        NativeKept::Pass => Ok(Step::End(as_object(world, answer)?)),
+        NativeKept::Pass => Ok(Step::End(caught(as_object(world, answer))?)),
         NativeKept::AfterGet(class, func) => resume_class_method(world, class, func, answer),
         NativeKept::AfterDoc(wrapper, class, func) => {
             give_doc(world, wrapper, class, func, answer)

@@ -27,10 +27,7 @@ use enter::{begin_enter, begin_enter_power};
 use int::begin_int;
 use joins::{begin_add, begin_concat, begin_inplace_add, begin_inplace_concat, inplace_join, join};
 use powers::{Tried, begin_inplace_power, begin_power, plain_power, power_last, power_next};
-use py_node::{
-    Answer, Cause, OperatorTask, OutOfMemory, PyNumberBinaryOp, PyObjectRef, Raised, SlotEntry,
-    Step,
-};
+use py_node::{Answer, Cause, OperatorTask, OutOfMemory, PyNumberBinaryOp, PyObjectRef, Raised, SlotEntry, Step, caught};
 use repeats::{
     begin_inplace_mul, begin_inplace_repeat, begin_mul, begin_repeat, inplace_repeat_one,
     inplace_times, repeat_one, times,
@@ -100,7 +97,7 @@ pub fn begin(world: &mut World, task: OperatorTask) -> Result<Step<OperatorKept>
         OperatorTask::InplaceMul(a, b) => Ok(begin_inplace_mul(a, b)),
         OperatorTask::InplaceRepeat(a, count) => begin_inplace_repeat(world, a, count),
         OperatorTask::NativeRepeat(entry, a, count) => {
-            let ended = native_repeat(world, entry, a, count)?;
+            let ended = caught(native_repeat(world, entry, a, count))?;
             Ok(Step::End(ended))
         }
         OperatorTask::EnterPower(entry, a, b, c) => begin_enter_power(world, entry, a, b, c),

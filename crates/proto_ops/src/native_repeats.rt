@@ -20,7 +20,7 @@ use class_world::takes::two;
 pub use count::{check_repeat_or_overflow_error, count_in};
 use py_node::protocol::ProtocolTask;
 use py_node::task::{Args, Keywords};
-use py_node::{Answer, FuncArgs, NativeEntry, OutOfMemory, PyObjectRef, Raised, Step, Task};
+use py_node::{Answer, FuncArgs, NativeEntry, OutOfMemory, PyObjectRef, Raised, Step, Task, caught};
 pub use repeated::native_repeat;
 
 /// What a repetition by name keeps while it waits for the index that tells how often.
@@ -64,12 +64,12 @@ fn begin_kind(
     kind: Repeated,
     call: FuncArgs<'_>,
 ) -> Result<Step<RepeatKept>, OutOfMemory>
-    requires call.args { Holds world.now (AreNodes call.args.now) }
+    requires args { Holds world.now (AreNodes call.args.now) }
     requires kind { kind_of entry ≡ Some kind }
     ensures goes { IfOk result (λ step. Enters entry call.args.now call.kw.now world.now step) }
     ensures safe { IfOk result (λ step. AllHold world.now (of_step of_repeat_kept step)) }
 {
-    match standing(world, kind, call.args)? {
+    match caught(standing(world, kind, call.args))? {
         Err(raised) => Ok(Step::End(Err(raised))),
         Ok(items) => match two(call) {
             Err(raised) => Ok(Step::End(Err(raised))),

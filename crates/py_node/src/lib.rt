@@ -56,7 +56,7 @@ pub use raised::{Cause, Kind, Raised};
 pub use refs::{PyObjectRef, PyStrInterned, PyTypeRef};
 pub use reply::{BodyCall, Reply, ReplyAnswer};
 pub use slots::{Filling, Sort};
-pub use stop::{Stop, ended};
+pub use stop::{Stop, caught};
 pub use task::{
     Answer, AttributeTask, CallTask, ClassTask, DescriptorTask, EvalTask, FuncArgs, OperatorTask,
     PyComparisonOp, PyMethod, PyNumberBinaryOp, PyNumberUnaryOp, PyResult, PySetterValue, Step,

@@ -71,7 +71,7 @@ impl<T: Drop> From<AllocFailed<T>> for Stop {
 }
 
 /// What ended, with a value or a fault, apart from want of memory.
-pub fn ended<T>(end: Result<T, Stop>) -> Result<Result<T, Raised>, OutOfMemory>
+pub fn caught<T>(end: Result<T, Stop>) -> Result<Result<T, Raised>, OutOfMemory>
     ensures { result ≡ sorted end }
 {
     match end {

@@ -1,5 +1,6 @@
 //! A list gets the items of an iteration after its own.
 
+ghost use Rattle.py_node.specs.Stops.{Ended};
 ghost use Rattle.native_containers.specs.Below.{[], IfOk, InplaceAdd, OfList, of_ended, Leaves, ended_of, EndsAs, LeavesEnd, AllHold, AreNodes, Holding, Holds, IsNode, items_at};
 ghost use Rattle.std.specs.Prelude.{◌≡◌, ◌∷◌, ◌++◌};
 ghost use Rattle.py_node.specs.declared.built_in.BuiltIn.TheVariants.{List};
@@ -13,7 +14,7 @@ use class_world::World;
 use class_world::limits::is_within_limit;
 use py_node::protocol::ProtocolTask;
 use py_node::task::Args;
-use py_node::{Answer, Cause, FuncArgs, OutOfMemory, Payload, PyObjectRef, Raised, Step, Task};
+use py_node::{Answer, Cause, FuncArgs, OutOfMemory, Payload, PyObjectRef, Raised, Step, Stop, Task};
 use row_kit::proto_base::is_plain;
 use row_kit::take_containers::{Kind, items};
 
@@ -56,13 +57,13 @@ pub(crate) fn list_extended(
     list: PyObjectRef,
     stood: Option<Args>,
     answer: Result<Answer, Raised>,
-) -> Result<Result<Answer, Raised>, OutOfMemory>
+) -> Result<Answer, Stop>
     requires list { Holds world.old (IsNode list) }
     requires holding { Holds world.old (Holding list List) }
     requires stood { AllHold world.old (of_stood stood) }
     requires answer { AllHold world.old (of_ended answer) }
-    ensures ends { IfOk result (λ r. EndsAs (λ t u.
-        extend_rest u list (items_stood u stood list) (ended_of answer) []) world.old world.new r) }
+    ensures ends { Ended result (EndsAs (λ t u.
+        extend_rest u list (items_stood u stood list) (ended_of answer) []) world.old world.new) }
     ensures safe { LeavesEnd world.old world.new result }
 {
     match answer {
@@ -79,19 +80,19 @@ fn push_all(
     world: &mut World,
     list: PyObjectRef,
     others: &[PyObjectRef],
-) -> Result<Result<Answer, Raised>, OutOfMemory>
+) -> Result<Answer, Stop>
     requires list { Holds world.old (IsNode list) }
     requires holding { Holds world.old (Holding list List) }
     requires others { Holds world.old (AreNodes others.now) }
-    ensures ends { IfOk result (λ r. EndsAs (λ t u. list_extended u list (items_at u list ++ others.now))
-        world.old world.new r) }
+    ensures ends { Ended result (EndsAs (λ t u. list_extended u list (items_at u list ++ others.now))
+        world.old world.new) }
     ensures safe { LeavesEnd world.old world.new result }
 {
     if !is_within_limit(items(world, list).len() + others.len()) {
-        return Ok(Err(Raised::new(Cause::TooLong)));
+        return Err(Stop::raise(Cause::TooLong));
     }
     world.push_items(list, others)?;
-    Ok(Ok(Answer::Value(list)))
+    Ok(Answer::Value(list))
 }
 
 // So is one that has these items from then on, with others after them.
@@ -100,19 +101,19 @@ fn put_all(
     list: PyObjectRef,
     mut items: Args,
     others: &[PyObjectRef],
-) -> Result<Result<Answer, Raised>, OutOfMemory>
+) -> Result<Answer, Stop>
     requires list { Holds world.old (IsNode list) }
     requires holding { Holds world.old (Holding list List) }
     requires items { Holds world.old (AreNodes items.items) }
     requires others { Holds world.old (AreNodes others.now) }
-    ensures ends { IfOk result (λ r. EndsAs (λ t u. list_extended u list (items.items ++ others.now))
-        world.old world.new r) }
+    ensures ends { Ended result (EndsAs (λ t u. list_extended u list (items.items ++ others.now))
+        world.old world.new) }
     ensures safe { LeavesEnd world.old world.new result }
 {
     items.extend_from_slice(others)?;
     if !is_within_limit(items.len()) {
-        return Ok(Err(Raised::new(Cause::TooLong)));
+        return Err(Stop::raise(Cause::TooLong));
     }
     world.set_payload(list, Payload::List(items));
-    Ok(Ok(Answer::Value(list)))
+    Ok(Answer::Value(list))
 }

@@ -1,5 +1,6 @@
 //! An item or a part of a tuple or a list.
 
+ghost use Rattle.py_node.specs.Stops.{Ended};
 ghost use Rattle.native_containers.specs.Below.{[], IfOk, of_ended, Leaves, ended_of, EndsAs, LeavesEnd, AllHold, AreNodes, Holds, IsNode};
 ghost use Rattle.std.specs.Prelude.{◌≡◌, ◌∷◌};
 ghost use Rattle.native_containers.specs.NativeItems.Items.{get_item, item_got};
@@ -12,7 +13,7 @@ use crate::take::own_and;
 use class_world::World;
 use py_node::protocol::ProtocolTask;
 use py_node::task::Args;
-use py_node::{Answer, Cause, FuncArgs, OutOfMemory, PyObjectRef, Raised, Step, Task};
+use py_node::{Answer, Cause, FuncArgs, OutOfMemory, PyObjectRef, Raised, Step, Stop, Task, caught};
 use row_kit::give_containers::{new_list, new_tuple};
 use row_kit::take_containers::{Kind, items};
 
@@ -65,7 +66,7 @@ fn item_asked(
     match slice_of(world, key) {
         Some(slice) => {
             let part = part(world, slice, items(world, object))?;
-            let ended = made(world, sequence, part)?;
+            let ended = caught(made(world, sequence, part))?;
             Ok(Step::End(ended))
         }
         None => {
@@ -81,9 +82,9 @@ fn made(
     world: &mut World,
     sequence: Sequence,
     items: Args,
-) -> Result<Result<Answer, Raised>, OutOfMemory>
+) -> Result<Answer, Stop>
     requires { Holds world.old (AreNodes items.items) }
-    ensures ends { IfOk result (λ r. EndsAs (λ t u. made_as sequence u items.items) world.old world.new r) }
+    ensures ends { Ended result (EndsAs (λ t u. made_as sequence u items.items) world.old world.new) }
     ensures safe { LeavesEnd world.old world.new result }
 {
     match sequence {

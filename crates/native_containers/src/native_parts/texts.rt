@@ -1,5 +1,6 @@
 //! The texts of tuples, lists and dicts, which are made of those of their parts.
 
+ghost use Rattle.py_node.specs.Stops.{Ended, IfRaised};
 ghost use Rattle.native_containers.specs.Below.{Ok, Err, IfErr, IfOk, OnOk, string_bytes, of_ended, Leaves, Reading, plain, EndsAs, LeavesEnd, AllHold, AreNodes, Holds, IsNode, in_length};
 ghost use Rattle.std.specs.Prelude.{◌≡◌, ◌++◌};
 ghost use Rattle.native_containers.specs.NativeParts.Rows.{IsNoObject, Resumes, Starts, Takes, left, of_parts, of_parts_kept, repr_of};
@@ -10,7 +11,7 @@ use crate::native_parts::take::{Container, lone, part_at, parts_of, text_at};
 use class_world::World;
 use class_world::limits::{MOST_ITEMS, is_within_limit};
 use py_node::task::Args;
-use py_node::{Answer, Cause, FuncArgs, ObjectTask, OutOfMemory, PyObjectRef, Raised, Step, Task};
+use py_node::{Answer, Cause, FuncArgs, ObjectTask, OutOfMemory, PyObjectRef, Raised, Step, Stop, Task, caught};
 use row_kit::give::new_text;
 
 /// The parts of a container, how many of them were asked for their texts, and the texts that were answered.
@@ -59,7 +60,7 @@ fn next_text(
 {
     match part_at(&parts.items, parts.next) {
         None => {
-            let ended = end_text(world, container, &parts.texts)?;
+            let ended = caught(end_text(world, container, &parts.texts))?;
             Ok(Step::End(ended))
         }
         Some(part) => {
@@ -120,15 +121,13 @@ fn end_text(
     world: &mut World,
     container: Container,
     texts: &[PyObjectRef],
-) -> Result<Result<Answer, Raised>, OutOfMemory>
+) -> Result<Answer, Stop>
     requires { Holds world.old (AreNodes texts.now) }
-    ensures ends { IfOk result (λ r. EndsAs (λ t u. text_ends u container texts.now) world.old world.new r) }
+    ensures ends { Ended result (EndsAs (λ t u. text_ends u container texts.now) world.old world.new) }
     ensures safe { LeavesEnd world.old world.new result }
 {
-    match container_text(world, container, texts)? {
-        Err(raised) => Ok(Err(raised)),
-        Ok(text) => new_text(world, text),
-    }
+    let text = container_text(world, container, texts)?;
+    new_text(world, text)
 }
 
 // The text of a container, unless it is too long: then it isn't made to its end.
@@ -136,25 +135,25 @@ fn container_text(
     world: &World,
     container: Container,
     texts: &[PyObjectRef],
-) -> Result<Result<String, Raised>, OutOfMemory>
+) -> Result<String, Stop>
     requires { Holds world.now (AreNodes texts.now) }
-    ensures text { IfOk result (λ r. IfOk r (λ s. (t : Reading) →
-        in_length (container_text container (texts_at (plain t world.now) texts.now)) ≡ Ok (string_bytes s))) }
-    ensures long { IfOk result (λ r. IfErr r (λ x. (t : Reading) →
-        in_length (container_text container (texts_at (plain t world.now) texts.now)) ≡ Err x)) }
+    ensures text { IfOk result (λ s. (t : Reading) →
+        in_length (container_text container (texts_at (plain t world.now) texts.now)) ≡ Ok (string_bytes s)) }
+    ensures long { IfRaised result (λ x. (t : Reading) →
+        in_length (container_text container (texts_at (plain t world.now) texts.now)) ≡ Err x) }
 {
     let mut text = String::from_str(world.alloc(), opening(container))?;
     for i in 0..texts.len() {
         if text.len() > MOST_ITEMS {
-            return Ok(Err(Raised::new(Cause::TooLong)));
+            return Err(Stop::raise(Cause::TooLong));
         }
         push_part(world, &mut text, before(container, i), texts[i])?;
     }
     text.push_str(closing(container, texts.len()))?;
     if is_within_limit(text.len()) {
-        Ok(Ok(text))
+        Ok(text)
     } else {
-        Ok(Err(Raised::new(Cause::TooLong)))
+        Err(Stop::raise(Cause::TooLong))
     }
 }
 

@@ -1,5 +1,6 @@
 //! The texts of class methods and static methods.
 
+ghost use Rattle.py_node.specs.Stops.{IfRaised};
 ghost use Rattle.native_containers.specs.Below.{[], Ok, Err, IfErr, IfOk, Option, string_bytes, PyObjectRef as Object, Said, Ends, datum_at, of_answer, of_step, Leaves, Reading, plain, AllHold, AreNodes, Holds, IsNode, of_option, of_node_ref, in_length, with_own};
 ghost use Rattle.std.specs.Prelude.{◌≡◌, ◌∷◌};
 ghost use Rattle.native_containers.specs.NativeParts.Rows.{Resumes, Starts, of_parts_kept, repr_of_wrapper};
@@ -10,7 +11,7 @@ use crate::native_parts::take::text_at;
 use class_world::World;
 use class_world::limits::is_within_limit;
 use class_world::takes::one;
-use py_node::{Answer, Cause, FuncArgs, ObjectTask, OutOfMemory, Payload, PyObjectRef, Raised, Step, Task};
+use py_node::{Answer, Cause, FuncArgs, ObjectTask, OutOfMemory, Payload, PyObjectRef, Raised, Step, Stop, Task, caught};
 use row_kit::give::new_text;
 
 /// A class method or a static method.
@@ -85,10 +86,10 @@ pub(crate) fn wrapped_given(
         Resumes (PartsKept.Wrapped wrapper) (Ok (Answer.Value text)) world.old world.new step) }
     ensures safe { Leaves of_parts_kept world.old world.new result }
 {
-    match wrapper_text(world, wrapper, text)? {
+    match caught(wrapper_text(world, wrapper, text))? {
         Err(raised) => Ok(Step::End(Err(raised))),
         Ok(text) => {
-            let ended = new_text(world, text)?;
+            let ended = caught(new_text(world, text))?;
             Ok(Step::End(ended))
         }
     }
@@ -99,20 +100,20 @@ fn wrapper_text(
     world: &World,
     wrapper: Wrapper,
     wrapped: PyObjectRef,
-) -> Result<Result<String, Raised>, OutOfMemory>
+) -> Result<String, Stop>
     requires { Holds world.now (IsNode wrapped) }
-    ensures text { IfOk result (λ r. IfOk r (λ s. (t : Reading) →
-        in_length (wrapper_text wrapper (text_at (plain t world.now) wrapped)) ≡ Ok (string_bytes s))) }
-    ensures long { IfOk result (λ r. IfErr r (λ x. (t : Reading) →
-        in_length (wrapper_text wrapper (text_at (plain t world.now) wrapped)) ≡ Err x)) }
+    ensures text { IfOk result (λ s. (t : Reading) →
+        in_length (wrapper_text wrapper (text_at (plain t world.now) wrapped)) ≡ Ok (string_bytes s)) }
+    ensures long { IfRaised result (λ x. (t : Reading) →
+        in_length (wrapper_text wrapper (text_at (plain t world.now) wrapped)) ≡ Err x) }
 {
     let mut text = String::from_str(world.alloc(), wrapper_name(wrapper))?;
     text.push_str(text_at(world, wrapped))?;
     text.push_str(")>")?;
     if is_within_limit(text.len()) {
-        Ok(Ok(text))
+        Ok(text)
     } else {
-        Ok(Err(Raised::new(Cause::TooLong)))
+        Err(Stop::raise(Cause::TooLong))
     }
 }
 

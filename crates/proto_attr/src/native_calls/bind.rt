@@ -1,5 +1,6 @@
 //! What functions, natives and descriptors give as they are bound, by name.
 
+ghost use Rattle.py_node.specs.Stops.{Ended};
 ghost use Rattle.proto_attr.specs.Below.{Err, IfErr, IfOk, Option, PlainWorld, Said, Ends, datum_at, PyObjectRef as Object, of_ended, of_step, Leaves, Held, Reading, bindings, plain, EndsAs, LeavesEnd, AllHold, AreNodes, Holds, IsNode, of_option, of_node_ref};
 ghost use Rattle.std.specs.Prelude.{◌≡◌};
 ghost use Rattle.proto_attr.specs.declared.native_calls.way.Way.TheVariants as Way;
@@ -17,7 +18,7 @@ use crate::proto_descr::{
 };
 use class_world::World;
 use class_world::takes::{one, two};
-use py_node::{Answer, Cause, FuncArgs, NativeEntry, OutOfMemory, Payload, PyObjectRef, Raised, Step};
+use py_node::{Answer, Cause, FuncArgs, NativeEntry, OutOfMemory, Payload, PyObjectRef, Raised, Step, Stop};
 
 // What is bound, to which object, and for which class.
 pub(crate) type Bound = (PyObjectRef, PyObjectRef, Option<PyObjectRef>);
@@ -26,32 +27,28 @@ pub(crate) type Bound = (PyObjectRef, PyObjectRef, Option<PyObjectRef>);
 pub(crate) fn function_get_by_name(
     world: &mut World,
     call: FuncArgs<'_>,
-) -> Result<Result<Answer, Raised>, OutOfMemory>
+) -> Result<Answer, Stop>
     requires { Holds world.old (AreNodes call.args.now) }
-    ensures ends { IfOk result (λ r. EndsAs (λ t u. function_get_by_name u call.args.now (bindings t call.kw.now))
-        world.old world.new r) }
+    ensures ends { Ended result (EndsAs (λ t u. function_get_by_name u call.args.now (bindings t call.kw.now))
+        world.old world.new) }
     ensures safe { LeavesEnd world.old world.new result }
 {
-    match bound(world, Kind::Function, call) {
-        Err(raised) => Ok(Err(raised)),
-        Ok((m, o, class)) => bind_function(world, m, Some(o), class),
-    }
+    let (m, o, class) = bound(world, Kind::Function, call)?;
+    bind_function(world, m, Some(o), class)
 }
 
 /// What a native as a method gives for an object, and for a class if there is one.
 pub(crate) fn native_get_by_name(
     world: &mut World,
     call: FuncArgs<'_>,
-) -> Result<Result<Answer, Raised>, OutOfMemory>
+) -> Result<Answer, Stop>
     requires { Holds world.old (AreNodes call.args.now) }
-    ensures ends { IfOk result (λ r. EndsAs (λ t u. native_get_by_name u call.args.now (bindings t call.kw.now))
-        world.old world.new r) }
+    ensures ends { Ended result (EndsAs (λ t u. native_get_by_name u call.args.now (bindings t call.kw.now))
+        world.old world.new) }
     ensures safe { LeavesEnd world.old world.new result }
 {
-    match bound(world, Kind::Native, call) {
-        Err(raised) => Ok(Err(raised)),
-        Ok((m, o, class)) => bind_native(world, m, Some(o), class),
-    }
+    let (m, o, class) = bound(world, Kind::Native, call)?;
+    bind_native(world, m, Some(o), class)
 }
 
 /// What the descriptor of a getter gives for an object.
@@ -91,7 +88,7 @@ pub(crate) fn class_method_by_name(
     entry: NativeEntry,
     call: FuncArgs<'_>,
 ) -> Step<NativeKept>
-    requires call.args { Holds world.now (AreNodes call.args.now) }
+    requires args { Holds world.now (AreNodes call.args.now) }
     requires way { way_of entry ≡ Way.Binds Kind.ClassMethod }
     ensures goes { Does entry (λ t u. class_method_by_name u call.args.now (bindings t call.kw.now))
         world.now world.now result }

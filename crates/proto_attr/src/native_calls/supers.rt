@@ -22,7 +22,7 @@ pub(crate) fn super_get_by_name(
     entry: NativeEntry,
     call: FuncArgs<'_>,
 ) -> Step<NativeKept>
-    requires call.args { Holds world.now (AreNodes call.args.now) }
+    requires args { Holds world.now (AreNodes call.args.now) }
     requires way { way_of entry ≡ Way.Binds Kind.Super }
     ensures goes { Does entry (λ t u. super_get_by_name u call.args.now (bindings t call.kw.now)) world.now world.now result }
     ensures safe { AllHold world.now (of_step of_native_kept result) }

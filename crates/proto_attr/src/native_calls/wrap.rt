@@ -51,7 +51,7 @@ pub(crate) fn ask_for_doc(
     wrapper: Wrapper,
     call: FuncArgs<'_>,
 ) -> Step<NativeKept>
-    requires call.args { Holds world.now (AreNodes call.args.now) }
+    requires args { Holds world.now (AreNodes call.args.now) }
     requires way { way_of entry ≡ Way.Wraps wrapper }
     ensures goes { Does entry
         (λ t u. wrapper_new u (class_of_wrapper wrapper) call.args.now (bindings t call.kw.now))

@@ -1,5 +1,6 @@
 //! The qualified name of a member: it is kept, or its class is asked for its own.
 
+ghost use Rattle.py_node.specs.Stops.{Ended, IfRaised};
 ghost use Rattle.proto_attr.specs.Below.{ℕ, codes, Option, Ok, Err, IfErr, IfOk, string_bytes, PyObjectRef as Object, of_ended, Leaves, Reading, Reads, bindings, plain, spelled, spelled_option, EndsAs, LeavesEnd, AllHold, AreNodes, Holds, IsName, IsNode, of_member, Said, Ends, Text, with_own, datum_at, in_length};
 ghost use Rattle.std.specs.Prelude.{◌≡◌, ◌++◌};
 ghost use Rattle.py_node.specs.declared.built_in.BuiltIn.TheVariants as built_in;
@@ -11,7 +12,7 @@ use crate::native_details::DetailKept;
 use class_world::limits::is_within_limit;
 use class_world::takes::one;
 use class_world::{Fixed, World};
-use py_node::{Answer, AttributeTask, Cause, Detail, FuncArgs, Kind, Known, MemberDescriptor, OutOfMemory, Payload, PyObjectRef, PyStrInterned, Raised, Step, Task};
+use py_node::{Answer, AttributeTask, Cause, Detail, FuncArgs, Kind, Known, MemberDescriptor, OutOfMemory, Payload, PyObjectRef, PyStrInterned, Raised, Step, Stop, Task, caught};
 use row_kit::class_names::limited_text;
 use row_kit::give::new_text;
 
@@ -36,7 +37,7 @@ pub(crate) fn begin_name(
     match member.qualname {
         Some(name) => {
             let text = world.spelling(name)?;
-            let ended = limited_text(world, text)?;
+            let ended = caught(limited_text(world, text))?;
             Ok(Step::End(ended))
         }
         None => {
@@ -60,7 +61,7 @@ pub(crate) fn name_given(
 {
     match answer {
         Ok(Answer::Value(qualname)) => {
-            let ended = named_by(world, member, qualname)?;
+            let ended = caught(named_by(world, member, qualname))?;
             Ok(Step::End(ended))
         }
         Ok(other) => Ok(Step::End(Ok(other))),
@@ -79,30 +80,26 @@ fn named_by(
     world: &mut World,
     object: PyObjectRef,
     qualname: PyObjectRef,
-) -> Result<Result<Answer, Raised>, OutOfMemory>
+) -> Result<Answer, Stop>
     requires object { Holds world.old (IsNode object) }
     requires qualname { Holds world.old (IsNode qualname) }
-    ensures ends { IfOk result (λ r. EndsAs (λ t u. named_by u object (datum_at u object) qualname)
-        world.old world.new r) }
+    ensures ends { Ended result (EndsAs (λ t u. named_by u object (datum_at u object) qualname)
+        world.old world.new) }
     ensures safe { LeavesEnd world.old world.new result }
 {
     let member = match world.payload(object) {
         Payload::Member(member) => **member,
-        _ => return Ok(Ok(Answer::Value(world.fixed(Fixed::None)))),
+        _ => return Ok(Answer::Value(world.fixed(Fixed::None))),
     };
-    match dotted(world, qualname, member.name)? {
-        Err(raised) => Ok(Err(raised)),
-        Ok(text) => {
-            let name = world.intern(text.as_str())?;
-            let named = MemberDescriptor {
-                qualname: Some(name),
-                ..member
-            };
-            let boxed = Box::new(world.alloc(), named)?;
-            world.set_payload(object, Payload::Member(boxed));
-            new_text(world, text)
-        }
-    }
+    let text = dotted(world, qualname, member.name)?;
+        let name = world.intern(text.as_str())?;
+        let named = MemberDescriptor {
+            qualname: Some(name),
+            ..member
+        };
+        let boxed = Box::new(world.alloc(), named)?;
+        world.set_payload(object, Payload::Member(boxed));
+        new_text(world, text)
 }
 
 // The text that an object is, and a name in it. It must be a text, and not too long.
@@ -110,20 +107,20 @@ fn dotted(
     world: &World,
     qualname: PyObjectRef,
     name: PyStrInterned,
-) -> Result<Result<String, Raised>, OutOfMemory>
+) -> Result<String, Stop>
     requires qualname { Holds world.now (IsNode qualname) }
     requires name { Holds world.now (IsName name) }
-    ensures text { IfOk result (λ r. IfOk r (λ s. (t : Reading) → Reads t world.now →
-        dotted (spelled t name) (datum_at (plain t world.now) qualname) ≡ Ok (string_bytes s))) }
-    ensures refused { IfOk result (λ r. IfErr r (λ x. (t : Reading) → Reads t world.now →
-        dotted (spelled t name) (datum_at (plain t world.now) qualname) ≡ Err x)) }
+    ensures text { IfOk result (λ s. (t : Reading) → Reads t world.now →
+        dotted (spelled t name) (datum_at (plain t world.now) qualname) ≡ Ok (string_bytes s)) }
+    ensures refused { IfRaised result (λ x. (t : Reading) → Reads t world.now →
+        dotted (spelled t name) (datum_at (plain t world.now) qualname) ≡ Err x) }
 {
     match world.payload(qualname) {
         Payload::Text(qualname) => {
             let text = dotted_text(world, qualname, name)?;
-            Ok(in_length(text))
+            Ok(in_length(text)?)
         }
-        _ => Ok(Err(Raised::new(Cause::QualnameType))),
+        _ => Err(Stop::raise(Cause::QualnameType)),
     }
 }
 

@@ -1,5 +1,6 @@
 //! The natives of descriptors and of `super`.
 
+ghost use Rattle.py_node.specs.Stops.{Ended};
 ghost use Rattle.proto_attr.specs.Below.{Err, IfErr, IfOk, option_map, string_bytes, PlainWorld, Said, Ends, of_ended, Reading, Reads, bindings, plain, spelled, EndsAs, LeavesEnd, AllHold, AreNodes, Grows, IsClass, IsName, Holds, of_option, of_start};
 ghost use Rattle.std.specs.Prelude.{◌≡◌, ◌∷◌};
 ghost use Rattle.proto_attr.specs.NativeObjects.Descriptors.{callable_say, descriptor_native_say, super_say, wrapper_say, method_repr, member_repr, method_text, member_text, bound_text, super_repr, super_text, static_init};
@@ -7,7 +8,7 @@ ghost use Rattle.proto_attr.specs.NativeObjects.Descriptors.{callable_say, descr
 use crate::native_objects::take::{own_member, own_method, own_static, own_super};
 use class_world::takes::{one, two};
 use class_world::{Fixed, World};
-use py_node::{Answer, CallableNative, Cause, DescriptorNative, FuncArgs, OutOfMemory, Payload, PyStrInterned, PySuper, PyTypeRef, Raised, SuperNative, WrapperNative};
+use py_node::{Answer, CallableNative, Cause, DescriptorNative, FuncArgs, OutOfMemory, Payload, PyStrInterned, PySuper, PyTypeRef, Raised, Stop, SuperNative, WrapperNative};
 use row_kit::class_names::limited_text;
 use std::alloc::Global;
 
@@ -16,15 +17,15 @@ pub fn callable_native(
     world: &mut World,
     native: CallableNative,
     call: FuncArgs<'_>,
-) -> Result<Result<Answer, Raised>, OutOfMemory>
+) -> Result<Answer, Stop>
     requires { Holds world.old (AreNodes call.args.now) }
-    ensures ends { IfOk result (λ r. EndsAs (λ t u. callable_say u native call.args.now (bindings t call.kw.now))
-        world.old world.new r) }
+    ensures ends { Ended result (EndsAs (λ t u. callable_say u native call.args.now (bindings t call.kw.now))
+        world.old world.new) }
     ensures safe { LeavesEnd world.old world.new result }
 {
     match native {
         CallableNative::ReprMethodDescriptor => method_repr(world, call),
-        _ => Ok(Err(Raised::new(Cause::SelfType))),
+        _ => Err(Stop::raise(Cause::SelfType)),
     }
 }
 
@@ -33,15 +34,15 @@ pub fn descriptor_native(
     world: &mut World,
     native: DescriptorNative,
     call: FuncArgs<'_>,
-) -> Result<Result<Answer, Raised>, OutOfMemory>
+) -> Result<Answer, Stop>
     requires { Holds world.old (AreNodes call.args.now) }
-    ensures ends { IfOk result (λ r. EndsAs (λ t u. descriptor_native_say u native call.args.now (bindings t call.kw.now))
-        world.old world.new r) }
+    ensures ends { Ended result (EndsAs (λ t u. descriptor_native_say u native call.args.now (bindings t call.kw.now))
+        world.old world.new) }
     ensures safe { LeavesEnd world.old world.new result }
 {
     match native {
         DescriptorNative::MemberRepr => member_repr(world, call),
-        _ => Ok(Err(Raised::new(Cause::SelfType))),
+        _ => Err(Stop::raise(Cause::SelfType)),
     }
 }
 
@@ -50,15 +51,15 @@ pub fn super_native(
     world: &mut World,
     native: SuperNative,
     call: FuncArgs<'_>,
-) -> Result<Result<Answer, Raised>, OutOfMemory>
+) -> Result<Answer, Stop>
     requires { Holds world.old (AreNodes call.args.now) }
-    ensures ends { IfOk result (λ r. EndsAs (λ t u. super_say u native call.args.now (bindings t call.kw.now))
-        world.old world.new r) }
+    ensures ends { Ended result (EndsAs (λ t u. super_say u native call.args.now (bindings t call.kw.now))
+        world.old world.new) }
     ensures safe { LeavesEnd world.old world.new result }
 {
     match native {
         SuperNative::Repr => super_repr(world, call),
-        _ => Ok(Err(Raised::new(Cause::SelfType))),
+        _ => Err(Stop::raise(Cause::SelfType)),
     }
 }
 
@@ -67,15 +68,15 @@ pub fn wrapper_native(
     world: &mut World,
     native: WrapperNative,
     call: FuncArgs<'_>,
-) -> Result<Result<Answer, Raised>, OutOfMemory>
+) -> Result<Answer, Stop>
     requires { Holds world.old (AreNodes call.args.now) }
-    ensures ends { IfOk result (λ r. EndsAs (λ t u. wrapper_say u native call.args.now (bindings t call.kw.now))
-        world.old world.new r) }
+    ensures ends { Ended result (EndsAs (λ t u. wrapper_say u native call.args.now (bindings t call.kw.now))
+        world.old world.new) }
     ensures safe { LeavesEnd world.old world.new result }
 {
     match native {
-        WrapperNative::StaticInit => Ok(static_init(world, call)),
-        _ => Ok(Err(Raised::new(Cause::SelfType))),
+        WrapperNative::StaticInit => Ok(static_init(world, call)?),
+        _ => Err(Stop::raise(Cause::SelfType)),
     }
 }
 
@@ -83,18 +84,13 @@ pub fn wrapper_native(
 fn method_repr(
     world: &mut World,
     call: FuncArgs<'_>,
-) -> Result<Result<Answer, Raised>, OutOfMemory>
+) -> Result<Answer, Stop>
     requires { Holds world.old (AreNodes call.args.now) }
-    ensures ends { IfOk result (λ r. EndsAs (λ t u. method_repr u call.args.now (bindings t call.kw.now)) world.old world.new r) }
+    ensures ends { Ended result (EndsAs (λ t u. method_repr u call.args.now (bindings t call.kw.now)) world.old world.new) }
     ensures safe { LeavesEnd world.old world.new result }
 {
-    let (_object, (class, name)) = match own_method(world, call.args) {
-        Err(raised) => return Ok(Err(raised)),
-        Ok(method) => method,
-    };
-    if let Err(raised) = one(call) {
-        return Ok(Err(raised));
-    }
+    let (_object, (class, name)) = own_method(world, call.args)?;
+    one(call)?;
     let text = method_text(world, class, name)?;
     limited_text(world, text)
 }
@@ -103,18 +99,13 @@ fn method_repr(
 fn member_repr(
     world: &mut World,
     call: FuncArgs<'_>,
-) -> Result<Result<Answer, Raised>, OutOfMemory>
+) -> Result<Answer, Stop>
     requires { Holds world.old (AreNodes call.args.now) }
-    ensures ends { IfOk result (λ r. EndsAs (λ t u. member_repr u call.args.now (bindings t call.kw.now)) world.old world.new r) }
+    ensures ends { Ended result (EndsAs (λ t u. member_repr u call.args.now (bindings t call.kw.now)) world.old world.new) }
     ensures safe { LeavesEnd world.old world.new result }
 {
-    let (_object, (class, name)) = match own_member(world, call.args) {
-        Err(raised) => return Ok(Err(raised)),
-        Ok(member) => member,
-    };
-    if let Err(raised) = one(call) {
-        return Ok(Err(raised));
-    }
+    let (_object, (class, name)) = own_member(world, call.args)?;
+    one(call)?;
     let text = member_text(world, class, name)?;
     limited_text(world, text)
 }
@@ -149,18 +140,13 @@ fn member_text(world: &World, class: PyTypeRef, name: PyStrInterned) -> Result<S
 fn super_repr(
     world: &mut World,
     call: FuncArgs<'_>,
-) -> Result<Result<Answer, Raised>, OutOfMemory>
+) -> Result<Answer, Stop>
     requires { Holds world.old (AreNodes call.args.now) }
-    ensures ends { IfOk result (λ r. EndsAs (λ t u. super_repr u call.args.now (bindings t call.kw.now)) world.old world.new r) }
+    ensures ends { Ended result (EndsAs (λ t u. super_repr u call.args.now (bindings t call.kw.now)) world.old world.new) }
     ensures safe { LeavesEnd world.old world.new result }
 {
-    let (_object, own) = match own_super(world, call.args) {
-        Err(raised) => return Ok(Err(raised)),
-        Ok(own) => own,
-    };
-    if let Err(raised) = one(call) {
-        return Ok(Err(raised));
-    }
+    let (_object, own) = own_super(world, call.args)?;
+    one(call)?;
     let text = super_text(world, own)?;
     limited_text(world, text)
 }

@@ -1,11 +1,12 @@
 //! What is set through setters of the objects of the built-in classes other than `object` and `type`.
 
+ghost use Rattle.py_node.specs.Stops.{Ended};
 ghost use Rattle.proto_attr.specs.Below.{IfOk, of_ended, bindings, EndsAs, LeavesEnd, AllHold, AreNodes, Grows, Holds};
 ghost use Rattle.proto_attr.specs.NativeObjects.DetailSetters.{set_of_property, setter_of_say};
 
 use crate::native_objects::take::{one_or_two, own_property};
 use class_world::{Fixed, World};
-use py_node::{Answer, BuiltIn, Cause, Detail, FuncArgs, OutOfMemory, PyProperty, Raised};
+use py_node::{Answer, BuiltIn, Cause, Detail, FuncArgs, PyProperty, Raised, Stop};
 
 /// What is set of an object of a built-in class.
 pub fn setter_of_native(
@@ -13,15 +14,15 @@ pub fn setter_of_native(
     class: BuiltIn,
     detail: Detail,
     call: FuncArgs<'_>,
-) -> Result<Result<Answer, Raised>, OutOfMemory>
+) -> Result<Answer, Stop>
     requires { Holds world.old (AreNodes call.args.now) }
-    ensures ends { IfOk result (λ r. EndsAs (λ t u. setter_of_say u class detail call.args.now (bindings t call.kw.now))
-        world.old world.new r) }
+    ensures ends { Ended result (EndsAs (λ t u. setter_of_say u class detail call.args.now (bindings t call.kw.now))
+        world.old world.new) }
     ensures safe { LeavesEnd world.old world.new result }
 {
     match class {
-        BuiltIn::Property => Ok(set_of_property(world, detail, call)),
-        _ => Ok(Err(Raised::new(Cause::SelfType))),
+        BuiltIn::Property => Ok(set_of_property(world, detail, call)?),
+        _ => Err(Stop::raise(Cause::SelfType)),
     }
 }
 

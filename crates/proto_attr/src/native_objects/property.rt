@@ -1,5 +1,6 @@
 //! The natives of `property`.
 
+ghost use Rattle.py_node.specs.Stops.{Ended};
 ghost use Rattle.proto_attr.specs.Below.{IfOk, Some, class_at, of_ended, Reading, Reads, bindings, plain, spelled, EndsAs, LeavesEnd, AllHold, AreNodes, Grows, Holding, Holds, IsClass, IsName, IsNode, IsOf, of_binding, of_each, of_node_ref, of_option, of_property};
 ghost use Rattle.std.specs.Prelude.{◌≡◌};
 ghost use Rattle.py_node.specs.declared.built_in.BuiltIn.TheVariants.{Property};
@@ -8,27 +9,27 @@ ghost use Rattle.proto_attr.specs.NativeObjects.Descriptors.{bare, may_name, or_
 use crate::native_objects::take::own_property;
 use class_world::takes::{three, two};
 use class_world::{Fixed, World};
-use py_node::{Answer, Cause, FuncArgs, OutOfMemory, Payload, PropertyNative, PyObjectRef, PyProperty, PyStrInterned, PyTypeRef, Raised};
+use py_node::{Answer, Cause, FuncArgs, Payload, PropertyNative, PyObjectRef, PyProperty, PyStrInterned, PyTypeRef, Raised, Stop};
 
 /// A native of `property`.
 pub fn property_native(
     world: &mut World,
     native: PropertyNative,
     call: FuncArgs<'_>,
-) -> Result<Result<Answer, Raised>, OutOfMemory>
-    requires call.args { Holds world.old (AreNodes call.args.now) }
-    requires call.kw { AllHold world.old (of_each of_binding call.kw.now) }
-    ensures ends { IfOk result (λ r. EndsAs (λ t u. property_say u native call.args.now (bindings t call.kw.now))
-        world.old world.new r) }
+) -> Result<Answer, Stop>
+    requires args { Holds world.old (AreNodes call.args.now) }
+    requires kw { AllHold world.old (of_each of_binding call.kw.now) }
+    ensures ends { Ended result (EndsAs (λ t u. property_say u native call.args.now (bindings t call.kw.now))
+        world.old world.new) }
     ensures safe { LeavesEnd world.old world.new result }
 {
     match native {
-        PropertyNative::Init => Ok(property_init(world, call)),
-        PropertyNative::SetName => Ok(property_set_name(world, call)),
+        PropertyNative::Init => Ok(property_init(world, call)?),
+        PropertyNative::SetName => Ok(property_set_name(world, call)?),
         PropertyNative::Getter | PropertyNative::Setter | PropertyNative::Deleter => {
             property_part(world, native, call)
         }
-        _ => Ok(Err(Raised::new(Cause::SelfType))),
+        _ => Err(Stop::raise(Cause::SelfType)),
     }
 }
 
@@ -37,8 +38,8 @@ fn property_init(
     world: &mut World,
     call: FuncArgs<'_>,
 ) -> Result<Answer, Raised>
-    requires call.args { Holds world.old (AreNodes call.args.now) }
-    requires call.kw { AllHold world.old (of_each of_binding call.kw.now) }
+    requires args { Holds world.old (AreNodes call.args.now) }
+    requires kw { AllHold world.old (of_each of_binding call.kw.now) }
     ensures ends { EndsAs (λ t u. property_init u call.args.now (bindings t call.kw.now)) world.old world.new result }
     ensures grows { Grows world.old world.new }
     ensures holds { AllHold world.new (of_ended result) }
@@ -216,26 +217,19 @@ fn property_part(
     world: &mut World,
     native: PropertyNative,
     call: FuncArgs<'_>,
-) -> Result<Result<Answer, Raised>, OutOfMemory>
+) -> Result<Answer, Stop>
     requires { Holds world.old (AreNodes call.args.now) }
-    ensures ends { IfOk result (λ r. EndsAs (λ t u. property_part u native call.args.now (bindings t call.kw.now))
-        world.old world.new r) }
+    ensures ends { Ended result (EndsAs (λ t u. property_part u native call.args.now (bindings t call.kw.now))
+        world.old world.new) }
     ensures safe { LeavesEnd world.old world.new result }
 {
-    let (object, parts) = match own_property(world, call.args) {
-        Err(raised) => return Ok(Err(raised)),
-        Ok(own) => own,
-    };
-    match two(call) {
-        Err(raised) => Ok(Err(raised)),
-        Ok((_, part)) => {
-            let parts = with_other(native, bare(parts), part);
-            let class = class_of_property(world, object);
-            let boxed = Box::new(world.alloc(), parts)?;
-            let node = world.make_node(class, Payload::Property(boxed))?;
-            Ok(Ok(Answer::Value(node)))
-        }
-    }
+    let (object, parts) = own_property(world, call.args)?;
+    let (_, part) = two(call)?;
+        let parts = with_other(native, bare(parts), part);
+        let class = class_of_property(world, object);
+        let boxed = Box::new(world.alloc(), parts)?;
+        let node = world.make_node(class, Payload::Property(boxed))?;
+        Ok(Answer::Value(node))
 }
 
 // The class of a property, whose objects are properties.

@@ -1,5 +1,6 @@
 //! What is set of `object` and `type` through setters.
 
+ghost use Rattle.py_node.specs.Stops.{Ended};
 ghost use Rattle.proto_attr.specs.Below.{true, is_some, IfOk, IfSome, Dict, dict_of, class_number, PlainWorld, Ends, datum_at, of_ended, Reading, bindings, ended_of, plain, EndsAs, LeavesEnd, AllHold, AreNodes, Grows, Holding, IsClass, IsNode, Holds};
 ghost use Rattle.std.specs.Prelude.{◌≡◌};
 ghost use Rattle.proto_attr.specs.NativeObjects.Setters.{class_written, is_dict, redicted, reclassed, set_class, set_class_dict, set_dict, setter_say};
@@ -8,26 +9,26 @@ use crate::native_objects::class_setters::{set_annotations, set_module, set_name
 use crate::native_objects::rebase::set_bases;
 use crate::native_objects::take::{class_and_given, one_or_two};
 use class_world::{Fixed, World};
-use py_node::{Answer, Cause, FuncArgs, OutOfMemory, Payload, Property, PyObjectRef, PyTypeRef, Raised};
+use py_node::{Answer, Cause, FuncArgs, Payload, Property, PyObjectRef, PyTypeRef, Raised, Stop};
 
 /// What is set of any object, or of a class.
 pub fn setter_native(
     world: &mut World,
     property: Property,
     call: FuncArgs<'_>,
-) -> Result<Result<Answer, Raised>, OutOfMemory>
+) -> Result<Answer, Stop>
     requires { Holds world.old (AreNodes call.args.now) }
-    ensures ends { IfOk result (λ r. EndsAs (λ t u. setter_say u property call.args.now (bindings t call.kw.now))
-        world.old world.new r) }
+    ensures ends { Ended result (EndsAs (λ t u. setter_say u property call.args.now (bindings t call.kw.now))
+        world.old world.new) }
     ensures safe { LeavesEnd world.old world.new result }
 {
     match property {
-        Property::Class => Ok(class_of_any(world, call)),
-        Property::InstanceDict => Ok(dict_of_any(world, call)),
-        property => match class_and_given(world, call) {
-            Err(raised) => Ok(Err(raised)),
-            Ok((class, given)) => class_written(world, property, class, given),
-        },
+        Property::Class => Ok(class_of_any(world, call)?),
+        Property::InstanceDict => Ok(dict_of_any(world, call)?),
+        property => {
+            let (class, given) = class_and_given(world, call)?;
+            class_written(world, property, class, given)
+        }
     }
 }
 
@@ -70,10 +71,10 @@ fn class_written(
     property: Property,
     class: PyTypeRef,
     given: Option<PyObjectRef>,
-) -> Result<Result<Answer, Raised>, OutOfMemory>
+) -> Result<Answer, Stop>
     requires class { Holds world.old (IsClass class.0) }
     requires given { IfSome given (λ r. Holds world.old (IsNode r)) }
-    ensures ends { IfOk result (λ r. EndsAs (λ t u. class_written u property class.0 given) world.old world.new r) }
+    ensures ends { Ended result (EndsAs (λ t u. class_written u property class.0 given) world.old world.new) }
     ensures safe { LeavesEnd world.old world.new result }
 {
     match property {
@@ -81,14 +82,14 @@ fn class_written(
         Property::Qualname => set_qualname(world, class, given),
         Property::Module => set_module(world, class, given),
         Property::Bases => set_bases(world, class, given),
-        Property::Dict => Ok(set_class_dict(given)),
+        Property::Dict => Ok(set_class_dict(given)?),
         Property::Annotations => set_annotations(world, class, given),
         Property::Class
         | Property::Base
         | Property::Mro
         | Property::Flags
         | Property::TextSignature
-        | Property::InstanceDict => Ok(Err(Raised::new(Cause::NoSetter))),
+        | Property::InstanceDict => Err(Stop::raise(Cause::NoSetter)),
     }
 }
 

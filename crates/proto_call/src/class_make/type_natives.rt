@@ -1,13 +1,14 @@
 //! The natives of `type` that ask no task.
 #![tactic(auto, using(class_world::proofs::Items::item_holds))]
 
+ghost use Rattle.py_node.specs.Stops.{Ended};
 ghost use Rattle.proto_call.specs.Below.{map, IfOk, string_bytes, ℕ, Err, IfErr, bindings, Reading, Reads, plain, EndsAs, LeavesEnd, AreNodes, Holds, IsClass, IsNode, AllHold, in_length, in_module, module_of, qualname, Said, Ends, PyObjectRef as Object, of_ended};
 ghost use Rattle.std.specs.Prelude.{◌≡◌};
 ghost use Rattle.proto_call.specs.ClassMake.TypeNatives.{type_dir, class_text, with_class_and, type_native_say, type_repr, instance_check, subclass_check, type_subclasses, type_mro, type_prepare, type_subclass_hook};
 
 use class_world::takes::two;
 use class_world::{Fixed, World};
-use py_node::{Answer, BuiltIn, Cause, FuncArgs, OutOfMemory, Payload, PyDict, PyObjectRef, PyTypeRef, Raised, TypeNative};
+use py_node::{Answer, BuiltIn, Cause, FuncArgs, OutOfMemory, Payload, PyDict, PyObjectRef, PyTypeRef, Raised, Stop, TypeNative, caught};
 use row_kit::class_attributes::key_all;
 use row_kit::class_names::{in_module, limited_text, module_of, qualname};
 use row_kit::class_nodes::class_nodes;
@@ -19,15 +20,12 @@ use std::alloc::Global;
 pub(crate) fn type_dir(
     world: &mut World,
     call: FuncArgs<'_>,
-) -> Result<Result<Answer, Raised>, OutOfMemory>
+) -> Result<Answer, Stop>
     requires { Holds world.old (AreNodes call.args.now) }
-    ensures ends { IfOk result (λ r. EndsAs (λ t u. type_dir u call.args.now (bindings t call.kw.now)) world.old world.new r) }
+    ensures ends { Ended result (EndsAs (λ t u. type_dir u call.args.now (bindings t call.kw.now)) world.old world.new) }
     ensures safe { LeavesEnd world.old world.new result }
 {
-    let class = match lone_class(world, call) {
-        Err(raised) => return Ok(Err(raised)),
-        Ok(class) => class,
-    };
+    let class = lone_class(world, call)?;
     let attrs = world.get_attributes(class)?;
     let entries = key_all(world, &attrs)?;
     let keys = keys_of(world.alloc(), &entries)?;
@@ -88,22 +86,22 @@ pub fn type_native(
     world: &mut World,
     native: TypeNative,
     call: FuncArgs<'_>,
-) -> Result<Result<Answer, Raised>, OutOfMemory>
+) -> Result<Answer, Stop>
     requires { Holds world.old (AreNodes call.args.now) }
-    ensures ends { IfOk result (λ r. EndsAs (λ t u. type_native_say u native call.args.now (bindings t call.kw.now))
-        world.old world.new r) }
+    ensures ends { Ended result (EndsAs (λ t u. type_native_say u native call.args.now (bindings t call.kw.now))
+        world.old world.new) }
     ensures safe { LeavesEnd world.old world.new result }
 {
     match native {
         TypeNative::Repr => type_repr(world, call),
-        TypeNative::InstanceCheck => Ok(instance_check(world, call)),
-        TypeNative::SubclassCheck => Ok(subclass_check(world, call)),
+        TypeNative::InstanceCheck => Ok(instance_check(world, call)?),
+        TypeNative::SubclassCheck => Ok(subclass_check(world, call)?),
         TypeNative::Subclasses => type_subclasses(world, call),
         TypeNative::Dir => type_dir(world, call),
         TypeNative::Mro => type_mro(world, call),
         TypeNative::Prepare => type_prepare(world, call.args),
-        TypeNative::SubclassHook => Ok(type_subclass_hook(world, call.args)),
-        _ => Ok(Err(Raised::new(Cause::SelfType))),
+        TypeNative::SubclassHook => Ok(type_subclass_hook(world, call.args)?),
+        _ => Err(Stop::raise(Cause::SelfType)),
     }
 }
 
@@ -111,18 +109,14 @@ pub fn type_native(
 fn type_repr(
     world: &mut World,
     call: FuncArgs<'_>,
-) -> Result<Result<Answer, Raised>, OutOfMemory>
+) -> Result<Answer, Stop>
     requires { Holds world.old (AreNodes call.args.now) }
-    ensures ends { IfOk result (λ r. EndsAs (λ t u. type_repr u call.args.now (bindings t call.kw.now)) world.old world.new r) }
+    ensures ends { Ended result (EndsAs (λ t u. type_repr u call.args.now (bindings t call.kw.now)) world.old world.new) }
     ensures safe { LeavesEnd world.old world.new result }
 {
-    match lone_class(world, call) {
-        Err(raised) => Ok(Err(raised)),
-        Ok(class) => {
-            let text = class_text(world, class)?;
-            limited_text(world, text)
-        }
-    }
+    let class = lone_class(world, call)?;
+        let text = class_text(world, class)?;
+        limited_text(world, text)
 }
 
 // Whether the class of an object derives from a class.
@@ -158,53 +152,43 @@ fn subclass_check(
 fn type_subclasses(
     world: &mut World,
     call: FuncArgs<'_>,
-) -> Result<Result<Answer, Raised>, OutOfMemory>
+) -> Result<Answer, Stop>
     requires { Holds world.old (AreNodes call.args.now) }
-    ensures ends { IfOk result (λ r. EndsAs (λ t u. type_subclasses u call.args.now (bindings t call.kw.now))
-        world.old world.new r) }
+    ensures ends { Ended result (EndsAs (λ t u. type_subclasses u call.args.now (bindings t call.kw.now))
+        world.old world.new) }
     ensures safe { LeavesEnd world.old world.new result }
 {
-    match lone_class(world, call) {
-        Err(raised) => Ok(Err(raised)),
-        Ok(class) => {
-            let nodes = class_nodes(world, world.classes().subclasses(class))?;
-            new_sized(world, BuiltIn::List, Payload::List(nodes))
-        }
-    }
+    let class = lone_class(world, call)?;
+        let nodes = class_nodes(world, world.classes().subclasses(class))?;
+        new_sized(world, BuiltIn::List, Payload::List(nodes))
 }
 
 // The linearisation of a class.
 fn type_mro(
     world: &mut World,
     call: FuncArgs<'_>,
-) -> Result<Result<Answer, Raised>, OutOfMemory>
+) -> Result<Answer, Stop>
     requires { Holds world.old (AreNodes call.args.now) }
-    ensures ends { IfOk result (λ r. EndsAs (λ t u. type_mro u call.args.now (bindings t call.kw.now)) world.old world.new r) }
+    ensures ends { Ended result (EndsAs (λ t u. type_mro u call.args.now (bindings t call.kw.now)) world.old world.new) }
     ensures safe { LeavesEnd world.old world.new result }
 {
-    match lone_class(world, call) {
-        Err(raised) => Ok(Err(raised)),
-        Ok(class) => {
-            let nodes = class_nodes(world, world.classes().mro(class))?;
-            new_sized(world, BuiltIn::List, Payload::List(nodes))
-        }
-    }
+    let class = lone_class(world, call)?;
+        let nodes = class_nodes(world, world.classes().mro(class))?;
+        new_sized(world, BuiltIn::List, Payload::List(nodes))
 }
 
 // A new namespace, for a name and bases that may be given.
 fn type_prepare(
     world: &mut World,
     args: &[PyObjectRef],
-) -> Result<Result<Answer, Raised>, OutOfMemory>
+) -> Result<Answer, Stop>
     requires { Holds world.old (AreNodes args.now) }
-    ensures ends { IfOk result (λ r. EndsAs (λ t u. type_prepare u args.now) world.old world.new r) }
+    ensures ends { Ended result (EndsAs (λ t u. type_prepare u args.now) world.old world.new) }
     ensures safe { LeavesEnd world.old world.new result }
 {
-    if let Err(raised) = own_class(world, args) {
-        return Ok(Err(raised));
-    }
+    own_class(world, args)?;
     if args.len() > 3 {
-        return Ok(Err(Raised::new(Cause::ArgCount)));
+        return Err(Stop::raise(Cause::ArgCount));
     }
     let dict = PyDict::new(world.alloc());
     new_object(world, BuiltIn::Dict, Payload::Dict(dict))

@@ -1,5 +1,6 @@
 //! The natives that reckon with two numbers.
 
+ghost use Rattle.py_node.specs.Stops.{Ended};
 ghost use Rattle.proto_ops.specs.Below.{ℤ, IfOk, IfErr, Said, Ends, of_ended, Reading, bindings, ended_of, plain, AllHold, AreNodes, Holds, IsNode, EndsAs, LeavesEnd};
 ghost use Rattle.std.specs.Prelude.{◌≡◌};
 ghost use Rattle.proto_ops.specs.NativeNumbers.Say.{arithmetic_by, arithmetic_say, with_operands, with_powers, divided, pair_made};
@@ -10,7 +11,7 @@ use crate::native_numbers::reckon::{
 use class_world::args::both;
 use class_world::takes::three;
 use class_world::{Fixed, World};
-use py_node::{Answer, ArithmeticNative, BuiltIn, FuncArgs, OutOfMemory, Payload, Raised};
+use py_node::{Answer, ArithmeticNative, BuiltIn, FuncArgs, Payload, Raised, Stop};
 use row_kit::give::new_int;
 use row_kit::take::{numbers, numbers_of};
 
@@ -19,10 +20,10 @@ pub fn arithmetic_native(
     world: &mut World,
     native: ArithmeticNative,
     call: FuncArgs<'_>,
-) -> Result<Result<Answer, Raised>, OutOfMemory>
+) -> Result<Answer, Stop>
     requires { Holds world.old (AreNodes call.args.now) }
-    ensures ends { IfOk result (λ r. EndsAs (λ t u. arithmetic_say u native call.args.now (bindings t call.kw.now))
-        world.old world.new r) }
+    ensures ends { Ended result (EndsAs (λ t u. arithmetic_say u native call.args.now (bindings t call.kw.now))
+        world.old world.new) }
     ensures safe { LeavesEnd world.old world.new result }
 {
     match operands(world, native, call) {
@@ -88,8 +89,8 @@ fn arithmetic_by(
     native: ArithmeticNative,
     x: i128,
     y: i128,
-) -> Result<Result<Answer, Raised>, OutOfMemory>
-    ensures ends { IfOk result (λ r. EndsAs (λ t u. arithmetic_by u native x y) world.old world.new r) }
+) -> Result<Answer, Stop>
+    ensures ends { Ended result (EndsAs (λ t u. arithmetic_by u native x y) world.old world.new) }
     ensures safe { LeavesEnd world.old world.new result }
 {
     match native {
@@ -109,23 +110,17 @@ fn arithmetic_by(
 }
 
 // The tuple of a quotient and what it leaves, after these two.
-fn divided(world: &mut World, x: i128, y: i128) -> Result<Result<Answer, Raised>, OutOfMemory>
-    ensures ends { IfOk result (λ r. EndsAs (λ t u. divided u x y) world.old world.new r) }
+fn divided(world: &mut World, x: i128, y: i128) -> Result<Answer, Stop>
+    ensures ends { Ended result (EndsAs (λ t u. divided u x y) world.old world.new) }
     ensures safe { LeavesEnd world.old world.new result }
 {
-    let q = match quotient(x, y) {
-        Err(raised) => return Ok(Err(raised)),
-        Ok(q) => q,
-    };
-    let r = match remainder(x, y) {
-        Err(raised) => return Ok(Err(raised)),
-        Ok(r) => r,
-    };
+    let q = quotient(x, y)?;
+    let r = remainder(x, y)?;
     let alloc = world.alloc();
     let class = world.built_in(BuiltIn::Int);
     let first = world.make_node(class, Payload::Number(q))?;
     let second = world.make_node(class, Payload::Number(r))?;
     let items = both(alloc, first, second)?;
     let node = world.make_node(world.built_in(BuiltIn::Tuple), Payload::Tuple(items))?;
-    Ok(Ok(Answer::Value(node)))
+    Ok(Answer::Value(node))
 }

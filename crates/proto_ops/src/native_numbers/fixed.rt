@@ -1,12 +1,13 @@
 //! The natives of None and NotImplemented.
 
+ghost use Rattle.py_node.specs.Stops.{Ended};
 ghost use Rattle.proto_ops.specs.Below.{IfOk, Err, IfSome, IfNone, PlainWorld, Said, Ends, Reading, bindings, AreNodes, Holds, EndsAs, LeavesEnd};
 ghost use Rattle.std.specs.Prelude.{◌≡◌};
 ghost use Rattle.proto_ops.specs.NativeNumbers.Say.{fixed_first, fixed_of, fixed_say, with_fixed};
 
 use class_world::takes::one;
 use class_world::{Fixed, World};
-use py_node::{Answer, Cause, FixedNative, FuncArgs, OutOfMemory, PyObjectRef, Raised};
+use py_node::{Answer, Cause, FixedNative, FuncArgs, PyObjectRef, Raised, Stop};
 use row_kit::give::new_word;
 
 /// A native of None or NotImplemented.
@@ -14,17 +15,17 @@ pub fn fixed_native(
     world: &mut World,
     native: FixedNative,
     call: FuncArgs<'_>,
-) -> Result<Result<Answer, Raised>, OutOfMemory>
-    ensures ends { IfOk result (λ r. EndsAs (λ t u. fixed_say u native call.args.now (bindings t call.kw.now))
-        world.old world.new r) }
+) -> Result<Answer, Stop>
+    ensures ends { Ended result (EndsAs (λ t u. fixed_say u native call.args.now (bindings t call.kw.now))
+        world.old world.new) }
     ensures safe { LeavesEnd world.old world.new result }
 {
     if let Some(raised) = refusal(native, call) {
-        return Ok(Err(raised));
+        return Err(raised.into());
     }
     match native {
         FixedNative::NoneRepr => new_word(world, "None"),
-        FixedNative::NoneBoolean => Ok(Ok(Answer::Value(world.truth(false)))),
+        FixedNative::NoneBoolean => Ok(Answer::Value(world.truth(false))),
         FixedNative::NotImplementedRepr => new_word(world, "NotImplemented"),
     }
 }

@@ -1,5 +1,6 @@
 //! The natives that ask nothing.
 
+ghost use Rattle.py_node.specs.Stops.{Ended};
 ghost use Rattle.vm_eval.specs.Below.{IfOk, of_args, bindings, AllHold, EndsAs, LeavesEnd};
 ghost use Rattle.vm_eval.specs.OfNatives.Say.{native_by};
 
@@ -13,17 +14,17 @@ use proto_attr::native_objects::{
 use proto_ops::native_numbers::{
     arithmetic_native, bits_native, compare_native, fixed_native, number_native,
 };
-use py_node::{Answer, BuiltIn, Cause, FuncArgs, NativeEntry, OutOfMemory, Raised};
+use py_node::{Answer, BuiltIn, Cause, FuncArgs, NativeEntry, Stop};
 
 /// How a native ends that asks nothing.
 pub(crate) fn plain_native(
     world: &mut World,
     entry: NativeEntry,
     call: FuncArgs<'_>,
-) -> Result<Result<Answer, Raised>, OutOfMemory>
+) -> Result<Answer, Stop>
     requires { AllHold world.old (of_args call.args.now call.kw.now) }
-    ensures ends { IfOk result (λ r. EndsAs (λ t u. native_by u entry call.args.now (bindings t call.kw.now))
-        world.old world.new r) }
+    ensures ends { Ended result (EndsAs (λ t u. native_by u entry call.args.now (bindings t call.kw.now))
+        world.old world.new) }
     ensures safe { LeavesEnd world.old world.new result }
 {
     match entry {
@@ -32,12 +33,12 @@ pub(crate) fn plain_native(
         NativeEntry::OfArithmetic(native) => arithmetic_native(world, native, call),
         NativeEntry::OfBits(native) => bits_native(world, native, call),
         NativeEntry::OfStr(native) => text_native(world, native, call),
-        NativeEntry::Compare(BuiltIn::Int, native) => Ok(compare_native(world, native, call)),
-        NativeEntry::Compare(BuiltIn::Str, native) => Ok(compare_text(world, native, call)),
+        NativeEntry::Compare(BuiltIn::Int, native) => Ok(compare_native(world, native, call)?),
+        NativeEntry::Compare(BuiltIn::Str, native) => Ok(compare_text(world, native, call)?),
         NativeEntry::OfTuple(native) => tuple_native(world, native, call),
         NativeEntry::OfList(native) => list_native(world, native, call),
         NativeEntry::OfDict(native) => dict_native(world, native, call),
-        NativeEntry::OfIterator(native) => Ok(iterator_native(world, native, call)),
+        NativeEntry::OfIterator(native) => Ok(iterator_native(world, native, call)?),
         NativeEntry::OfCallable(native) => callable_native(world, native, call),
         NativeEntry::OfDescriptor(native) => descriptor_native(world, native, call),
         NativeEntry::OfProperty(native) => property_native(world, native, call),
@@ -48,6 +49,6 @@ pub(crate) fn plain_native(
         NativeEntry::Setter(property) => setter_native(world, property, call),
         NativeEntry::GetterOf(class, detail) => getter_of_native(world, class, detail, call),
         NativeEntry::SetterOf(class, detail) => setter_of_native(world, class, detail, call),
-        _ => Ok(Err(Raised::new(Cause::SelfType))),
+        _ => Err(Stop::raise(Cause::SelfType)),
     }
 }
