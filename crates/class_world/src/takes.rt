@@ -29,9 +29,7 @@ pub fn one(call: FuncArgs<'_>) -> Result<PyObjectRef, Raised>
 }
 
 /// The two arguments, or why the arguments are refused.
-pub fn two(
-    call: FuncArgs<'_>,
-) -> Result<(PyObjectRef, PyObjectRef), Raised>
+pub fn two(call: FuncArgs<'_>) -> Result<(PyObjectRef, PyObjectRef), Raised>
     ensures given { IfOk result (λ p. (t : Reading) (w : PlainWorld) (go : Object → Object → Said) →
         with_two w call.args.now (bindings t call.kw.now) go ≡ go p.0 p.1) }
     ensures refused { IfErr result (λ x. (t : Reading) (w : PlainWorld) (go : Object → Object → Said) →
@@ -49,9 +47,7 @@ pub fn two(
 }
 
 /// The three arguments, or why the arguments are refused.
-pub fn three(
-    call: FuncArgs<'_>,
-) -> Result<(PyObjectRef, PyObjectRef, PyObjectRef), Raised>
+pub fn three(call: FuncArgs<'_>) -> Result<(PyObjectRef, PyObjectRef, PyObjectRef), Raised>
     ensures given { IfOk result (λ p. (t : Reading) (w : PlainWorld) (go : Object → Object → Object → Said) →
         with_three w call.args.now (bindings t call.kw.now) go ≡ go p.0 p.1 p.2) }
     ensures refused { IfErr result (λ x. (t : Reading) (w : PlainWorld) (go : Object → Object → Object → Said) →
@@ -92,10 +88,7 @@ fn wrong_count() -> Raised
 
 impl World {
     /// The name that an argument is, or why it is refused: it must be a text.
-    pub fn name_in(
-        &mut self,
-        node: PyObjectRef,
-    ) -> Result<PyStrInterned, Stop>
+    pub fn name_in(&mut self, node: PyObjectRef) -> Result<PyStrInterned, Stop>
         requires { Holds self.old (IsNode node) }
         ensures given { IfOk result (λ x. (t : Reading) (go : Text → Said) → Reads t self.new →
             with_text (plain t self.old) node go ≡ go (t.text x.0)) }

@@ -47,10 +47,7 @@ pub fn dict_native(
 }
 
 // How many keys there are.
-fn length(
-    world: &World,
-    call: FuncArgs<'_>,
-) -> Result<Answer, Raised>
+fn length(world: &World, call: FuncArgs<'_>) -> Result<Answer, Raised>
     requires { Holds world.now (AreNodes call.args.now) }
     ensures ends { EndsAs (λ t u. with_lone kind.Dict u call.args.now (bindings t call.kw.now)
         (λ d. counted u (entries_at u d))) world.now world.now result }
@@ -61,10 +58,7 @@ fn length(
 }
 
 // The value under a key, which must be there.
-fn get_item(
-    world: &World,
-    call: FuncArgs<'_>,
-) -> Result<Answer, Raised>
+fn get_item(world: &World, call: FuncArgs<'_>) -> Result<Answer, Raised>
     requires { Holds world.now (AreNodes call.args.now) }
     ensures ends { EndsAs (λ t u. with_dict_and_key u call.args.now (bindings t call.kw.now)
         (λ d k. given_or u (value_under u d k) (fault MissingKey))) world.now world.now result }
@@ -78,10 +72,7 @@ fn get_item(
 }
 
 // Sets the value under a key.
-fn set_item(
-    world: &mut World,
-    call: FuncArgs<'_>,
-) -> Result<Answer, Stop>
+fn set_item(world: &mut World, call: FuncArgs<'_>) -> Result<Answer, Stop>
     requires { Holds world.old (AreNodes call.args.now) }
     ensures ends { Ended result (EndsAs (λ t u. with_own_and_two kind.Dict u call.args.now (bindings t call.kw.now)
         (λ d k v. with_key u k (dict_changed u d (with_entry u (entries_at u d) (k, v)) ends_none)))
@@ -119,10 +110,7 @@ fn put(
 }
 
 // Takes a key out, which must be there.
-fn del_item(
-    world: &mut World,
-    call: FuncArgs<'_>,
-) -> Result<Answer, Stop>
+fn del_item(world: &mut World, call: FuncArgs<'_>) -> Result<Answer, Stop>
     requires { Holds world.old (AreNodes call.args.now) }
     ensures ends { Ended result (EndsAs (λ t u. with_dict_and_key u call.args.now (bindings t call.kw.now)
         (λ d k. key_taken u d k (value_under u d k))) world.old world.new) }
@@ -148,10 +136,7 @@ fn take_key(world: &mut World, dict: PyObjectRef, key: PyObjectRef) -> Result<An
 }
 
 // Whether a key is there.
-fn contains(
-    world: &World,
-    call: FuncArgs<'_>,
-) -> Result<Answer, Raised>
+fn contains(world: &World, call: FuncArgs<'_>) -> Result<Answer, Raised>
     requires { Holds world.now (AreNodes call.args.now) }
     ensures ends { EndsAs (λ t u. with_dict_and_key u call.args.now (bindings t call.kw.now)
         (λ d k. Ends u (value (truth (is_some (value_under u d k)))))) world.now world.now result }
@@ -163,10 +148,7 @@ fn contains(
 }
 
 // A new iterator over a new list of the keys.
-fn iter(
-    world: &mut World,
-    call: FuncArgs<'_>,
-) -> Result<Answer, Stop>
+fn iter(world: &mut World, call: FuncArgs<'_>) -> Result<Answer, Stop>
     requires { Holds world.old (AreNodes call.args.now) }
     ensures ends { Ended result (EndsAs (λ t u.
         with_lone kind.Dict u call.args.now (bindings t call.kw.now) (λ d. list_iterated u (keys_of (entries_at u d))))
@@ -191,10 +173,7 @@ fn iterate_keys(world: &mut World, dict: PyObjectRef) -> Result<Answer, Stop>
 }
 
 // A new list of the keys.
-fn keys(
-    world: &mut World,
-    call: FuncArgs<'_>,
-) -> Result<Answer, Stop>
+fn keys(world: &mut World, call: FuncArgs<'_>) -> Result<Answer, Stop>
     requires { Holds world.old (AreNodes call.args.now) }
     ensures ends { Ended result (EndsAs (λ t u.
         with_lone kind.Dict u call.args.now (bindings t call.kw.now) (λ d. list_made u (keys_of (entries_at u d))))
@@ -202,15 +181,12 @@ fn keys(
     ensures safe { LeavesEnd world.old world.new result }
 {
     let dict = lone(world, Kind::Dict, call)?;
-        let keys = keys_of(world.alloc(), entries(world, dict))?;
-        new_list(world, keys)
+    let keys = keys_of(world.alloc(), entries(world, dict))?;
+    new_list(world, keys)
 }
 
 // A new list of the values.
-fn values(
-    world: &mut World,
-    call: FuncArgs<'_>,
-) -> Result<Answer, Stop>
+fn values(world: &mut World, call: FuncArgs<'_>) -> Result<Answer, Stop>
     requires { Holds world.old (AreNodes call.args.now) }
     ensures ends { Ended result (EndsAs (λ t u.
         with_lone kind.Dict u call.args.now (bindings t call.kw.now) (λ d. list_made u (values_of (entries_at u d))))
@@ -218,15 +194,12 @@ fn values(
     ensures safe { LeavesEnd world.old world.new result }
 {
     let dict = lone(world, Kind::Dict, call)?;
-        let values = values_of(world.alloc(), entries(world, dict))?;
-        new_list(world, values)
+    let values = values_of(world.alloc(), entries(world, dict))?;
+    new_list(world, values)
 }
 
 // A new list of new tuples, each of a key with its value.
-fn items(
-    world: &mut World,
-    call: FuncArgs<'_>,
-) -> Result<Answer, Stop>
+fn items(world: &mut World, call: FuncArgs<'_>) -> Result<Answer, Stop>
     requires { Holds world.old (AreNodes call.args.now) }
     ensures ends { Ended result (EndsAs (λ t u.
         with_lone kind.Dict u call.args.now (bindings t call.kw.now) (λ d. pairs_made u [] (entries_at u d)))
@@ -238,10 +211,7 @@ fn items(
 }
 
 // The value under a key, or else what is given for that, or None.
-fn get(
-    world: &World,
-    call: FuncArgs<'_>,
-) -> Result<Answer, Raised>
+fn get(world: &World, call: FuncArgs<'_>) -> Result<Answer, Raised>
     requires { Holds world.now (AreNodes call.args.now) }
     ensures ends { EndsAs (λ t u. with_own kind.Dict u call.args.now (λ d. with_default u call.args.now (bindings t call.kw.now)
         (λ k v. with_key u k (given_or u (value_under u d k) (value v))))) world.now world.now result }
@@ -257,10 +227,7 @@ fn get(
 }
 
 // Sets each key of another dict, with its value there.
-fn update(
-    world: &mut World,
-    call: FuncArgs<'_>,
-) -> Result<Answer, Stop>
+fn update(world: &mut World, call: FuncArgs<'_>) -> Result<Answer, Stop>
     requires { Holds world.old (AreNodes call.args.now) }
     ensures ends { Ended result (EndsAs (λ t u. with_own_and kind.Dict u call.args.now (bindings t call.kw.now)
         (λ d o. dict_updated u d o ends_none)) world.old world.new) }

@@ -16,10 +16,7 @@ use py_node::{Answer, Cause, FuncArgs, PyObjectRef, PyStrInterned, Stop};
 use row_kit::take_containers::Kind;
 
 /// Sets the entries of another dict, if there is one, and then keywords, in a dict.
-pub(crate) fn init(
-    world: &mut World,
-    call: FuncArgs<'_>,
-) -> Result<Answer, Stop>
+pub(crate) fn init(world: &mut World, call: FuncArgs<'_>) -> Result<Answer, Stop>
     requires { AllHold world.old (of_args call.args.now call.kw.now) }
     ensures ends { Ended result (EndsAs (λ t u.
         with_own kind.Dict u call.args.now (λ d. dict_filled u d call.args.now (bindings t call.kw.now)))
@@ -31,11 +28,7 @@ pub(crate) fn init(
 }
 
 // Sets what the arguments after a dict and the keywords say.
-fn fill(
-    world: &mut World,
-    dict: PyObjectRef,
-    call: FuncArgs<'_>,
-) -> Result<Answer, Stop>
+fn fill(world: &mut World, dict: PyObjectRef, call: FuncArgs<'_>) -> Result<Answer, Stop>
     requires dict { Holds world.old (IsNode dict) }
     requires holding { Holds world.old (Holding dict Dict) }
     requires args { AllHold world.old (of_args call.args.now call.kw.now) }
@@ -45,10 +38,10 @@ fn fill(
 {
     match call.args {
         [_] => set_names(world, dict, call.kw),
-        [_, other] => match update_from(world, dict, *other)? {
-            Err(raised) => Err(raised.into()),
-            Ok(()) => set_names(world, dict, call.kw),
-        },
+        [_, other] => {
+            update_from(world, dict, *other)?;
+            set_names(world, dict, call.kw)
+        }
         _ => Err(Stop::raise(Cause::ArgCount)),
     }
 }

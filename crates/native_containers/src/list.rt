@@ -38,10 +38,7 @@ pub fn list_native(
 }
 
 // Two lists after one another, as a new one.
-fn add(
-    world: &mut World,
-    call: FuncArgs<'_>,
-) -> Result<Answer, Stop>
+fn add(world: &mut World, call: FuncArgs<'_>) -> Result<Answer, Stop>
     requires { Holds world.old (AreNodes call.args.now) }
     ensures ends { Ended result (EndsAs (λ t u.
         with_joined kind.List u call.args.now (bindings t call.kw.now) (list_made u)) world.old world.new) }
@@ -52,10 +49,7 @@ fn add(
 }
 
 // An object is put last into a list.
-fn append(
-    world: &mut World,
-    call: FuncArgs<'_>,
-) -> Result<Answer, Stop>
+fn append(world: &mut World, call: FuncArgs<'_>) -> Result<Answer, Stop>
     requires { Holds world.old (AreNodes call.args.now) }
     ensures ends { Ended result (EndsAs (λ t u.
         with_own_and kind.List u call.args.now (bindings t call.kw.now)
@@ -67,11 +61,7 @@ fn append(
 }
 
 // It is put there, unless the list would be too long.
-fn push(
-    world: &mut World,
-    list: PyObjectRef,
-    last: PyObjectRef,
-) -> Result<Answer, Stop>
+fn push(world: &mut World, list: PyObjectRef, last: PyObjectRef) -> Result<Answer, Stop>
     requires list { Holds world.old (IsNode list) }
     requires holding { Holds world.old (Holding list List) }
     requires last { Holds world.old (IsNode last) }

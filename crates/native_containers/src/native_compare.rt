@@ -58,7 +58,10 @@ pub fn begin(
     ensures goes { IfOk result (λ step. Begins (task.Native entry args kw) world.old world.new step) }
     ensures safe { Leaves of_compared_kept world.old world.new result }
 {
-    let call = FuncArgs { args: &args, kw: &kw };
+    let call = FuncArgs {
+        args: &args,
+        kw: &kw,
+    };
     match entry {
         NativeEntry::Compare(BuiltIn::Tuple, native) => {
             sequences(world, Kind::Tuple, native, call)

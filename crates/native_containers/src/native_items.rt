@@ -27,7 +27,10 @@ use crate::native_items::search::{contains, searched};
 use crate::native_items::set::{item_set, set_item};
 use class_world::World;
 use py_node::task::{Args, Keywords};
-use py_node::{Answer, FuncArgs, IteratorNative, ListNative, NativeEntry, OutOfMemory, PyObjectRef, Raised, Step, StrNative, TupleNative, caught};
+use py_node::{
+    Answer, FuncArgs, IteratorNative, ListNative, NativeEntry, OutOfMemory, PyObjectRef, Raised,
+    Step, StrNative, TupleNative, caught,
+};
 
 /// What a native of items keeps while it waits for an answer. Where a script may run meanwhile, this has the items
 /// that stood in the object at the start.
@@ -78,7 +81,10 @@ pub fn begin(
     ensures goes { IfOk result (λ step. Begins (task.Native entry args kw) world.old world.new step) }
     ensures safe { Leaves of_item_kept world.old world.new result }
 {
-    let call = FuncArgs { args: &args, kw: &kw };
+    let call = FuncArgs {
+        args: &args,
+        kw: &kw,
+    };
     match entry {
         NativeEntry::OfStr(StrNative::GetItem) => get_character(world, call),
         NativeEntry::OfTuple(TupleNative::GetItem) => get_item(world, Sequence::Tuple, call),

@@ -22,7 +22,10 @@ use hash::{begin_hash, hash_given};
 use makers::{begin_list, begin_str, begin_tuple, fill, str_made, tuple_made};
 use numbers::{begin_bool, begin_int, int_made};
 use py_node::task::{Args, Keywords};
-use py_node::{Answer, BuiltIn, DictNative, FuncArgs, ListNative, NativeEntry, OutOfMemory, PyObjectRef, PyTypeRef, Raised, Step, TupleNative, WrapperNative};
+use py_node::{
+    Answer, BuiltIn, DictNative, FuncArgs, ListNative, NativeEntry, OutOfMemory, PyObjectRef,
+    PyTypeRef, Raised, Step, TupleNative, WrapperNative,
+};
 pub use take::Container;
 pub use texts::Parts;
 use texts::{begin_text, text_given};
@@ -75,7 +78,10 @@ pub fn begin(
     ensures goes { IfOk result (λ step. Begins (task.Native entry args kw) world.old world.new step) }
     ensures safe { Leaves of_parts_kept world.old world.new result }
 {
-    let call = FuncArgs { args: &args, kw: &kw };
+    let call = FuncArgs {
+        args: &args,
+        kw: &kw,
+    };
     match entry {
         NativeEntry::OfTuple(TupleNative::Repr) => begin_text(world, Container::Tuple, call),
         NativeEntry::OfTuple(TupleNative::Hash) => begin_hash(world, call),

@@ -16,11 +16,7 @@ use row_kit::take_containers::{Kind, is_of, items};
 use std::alloc::Global;
 
 /// How many items a tuple or a list has.
-pub(crate) fn length(
-    world: &World,
-    kind: Kind,
-    call: FuncArgs<'_>,
-) -> Result<Answer, Raised>
+pub(crate) fn length(world: &World, kind: Kind, call: FuncArgs<'_>) -> Result<Answer, Raised>
     requires { Holds world.now (AreNodes call.args.now) }
     ensures ends { EndsAs (λ t u. with_lone kind u call.args.now (bindings t call.kw.now)
         (λ o. counted u (items_at u o))) world.now world.now result }
@@ -31,11 +27,7 @@ pub(crate) fn length(
 }
 
 /// A new iterator over a tuple or a list.
-pub(crate) fn iter(
-    world: &mut World,
-    kind: Kind,
-    call: FuncArgs<'_>,
-) -> Result<Answer, Stop>
+pub(crate) fn iter(world: &mut World, kind: Kind, call: FuncArgs<'_>) -> Result<Answer, Stop>
     requires { Holds world.old (AreNodes call.args.now) }
     ensures ends { Ended result (EndsAs (λ t u.
         with_lone kind u call.args.now (bindings t call.kw.now) (iterator_made u)) world.old world.new) }
@@ -46,11 +38,7 @@ pub(crate) fn iter(
 }
 
 /// The items of two objects of a kind after one another, or why there are none.
-pub(crate) fn joined(
-    world: &World,
-    kind: Kind,
-    call: FuncArgs<'_>,
-) -> Result<Args, Stop>
+pub(crate) fn joined(world: &World, kind: Kind, call: FuncArgs<'_>) -> Result<Args, Stop>
     requires { Holds world.now (AreNodes call.args.now) }
     ensures given { IfOk result (λ rs. (t : Reading) (go : List Object → Said) →
         with_joined kind (plain t world.now) call.args.now (bindings t call.kw.now) go ≡ go rs.items) }

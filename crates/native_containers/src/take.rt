@@ -44,11 +44,7 @@ pub fn kind_refusal(world: &World, kind: Kind, object: PyObjectRef) -> Option<Ra
 }
 
 /// The only argument, which must be of a kind, or why the arguments are refused.
-pub fn lone(
-    world: &World,
-    kind: Kind,
-    call: FuncArgs<'_>,
-) -> Result<PyObjectRef, Raised>
+pub fn lone(world: &World, kind: Kind, call: FuncArgs<'_>) -> Result<PyObjectRef, Raised>
     requires { Holds world.now (AreNodes call.args.now) }
     ensures given { IfOk result (λ o. (t : Reading) (go : Object → Said) →
         with_lone kind (plain t world.now) call.args.now (bindings t call.kw.now) go ≡ go o) }
@@ -120,10 +116,7 @@ pub fn key_refusal(world: &World, key: PyObjectRef) -> Option<Raised>
 }
 
 /// A dict and a key, or why the arguments are refused.
-pub fn dict_and_key(
-    world: &World,
-    call: FuncArgs<'_>,
-) -> Result<(PyObjectRef, PyObjectRef), Raised>
+pub fn dict_and_key(world: &World, call: FuncArgs<'_>) -> Result<(PyObjectRef, PyObjectRef), Raised>
     requires { Holds world.now (AreNodes call.args.now) }
     ensures given { IfOk result (λ p. (t : Reading) (go : Object → Object → Said) →
         with_dict_and_key (plain t world.now) call.args.now (bindings t call.kw.now) go ≡ go p.0 p.1) }
@@ -141,10 +134,7 @@ pub fn dict_and_key(
 }
 
 /// A key and what is given without it, or why the arguments are refused.
-pub fn with_default(
-    world: &World,
-    call: FuncArgs<'_>,
-) -> Result<(PyObjectRef, PyObjectRef), Raised>
+pub fn with_default(world: &World, call: FuncArgs<'_>) -> Result<(PyObjectRef, PyObjectRef), Raised>
     requires { Holds world.now (AreNodes call.args.now) }
     ensures given { IfOk result (λ p. (t : Reading) (go : Object → Object → Said) →
         with_default (plain t world.now) call.args.now (bindings t call.kw.now) go ≡ go p.0 p.1) }

@@ -32,10 +32,7 @@ pub fn tuple_native(
 }
 
 // Two tuples after one another, as a new one.
-fn add(
-    world: &mut World,
-    call: FuncArgs<'_>,
-) -> Result<Answer, Stop>
+fn add(world: &mut World, call: FuncArgs<'_>) -> Result<Answer, Stop>
     requires { Holds world.old (AreNodes call.args.now) }
     ensures ends { Ended result (EndsAs (λ t u.
         with_joined kind.Tuple u call.args.now (bindings t call.kw.now) (tuple_made u)) world.old world.new) }

@@ -25,7 +25,10 @@ use crate::native_calls::wrap::{ask_for_doc, give_doc};
 use crate::native_calls::wrapped::part_of_wrapped;
 use class_world::{Fixed, World};
 use py_node::task::{Args, Keywords};
-use py_node::{Answer, Detail, FuncArgs, NativeEntry, OutOfMemory, PyObjectRef, PyTypeRef, Raised, Step, caught};
+use py_node::{
+    Answer, Detail, FuncArgs, NativeEntry, OutOfMemory, PyObjectRef, PyTypeRef, Raised, Step,
+    caught,
+};
 use row_kit::give::as_object;
 
 mod bind;
@@ -72,36 +75,101 @@ pub fn begin(
     ensures safe { Leaves of_native_kept world.old world.new result }
 {
     match way_of(entry) {
-        Way::Binds(kind) => binds(world, entry, kind, FuncArgs { args: &args, kw: &kw }),
+        Way::Binds(kind) => binds(
+            world,
+            entry,
+            kind,
+            FuncArgs {
+                args: &args,
+                kw: &kw,
+            },
+        ),
         Way::Sets(setting) => {
-            let step = set_by_name(world, setting, FuncArgs { args: &args, kw: &kw })?;
+            let step = set_by_name(
+                world,
+                setting,
+                FuncArgs {
+                    args: &args,
+                    kw: &kw,
+                },
+            )?;
             Ok(answering(world, step))
         }
         Way::Deletes(setting) => {
-            let step = delete_by_name(world, setting, FuncArgs { args: &args, kw: &kw })?;
+            let step = delete_by_name(
+                world,
+                setting,
+                FuncArgs {
+                    args: &args,
+                    kw: &kw,
+                },
+            )?;
             Ok(answering(world, step))
         }
         Way::Reads(wrapper, detail) => {
-            let step = part_of_wrapped(world, wrapper, detail, FuncArgs { args: &args, kw: &kw });
+            let step = part_of_wrapped(
+                world,
+                wrapper,
+                detail,
+                FuncArgs {
+                    args: &args,
+                    kw: &kw,
+                },
+            );
             Ok(passed(step))
         }
         Way::Marked(wrapper) => {
-            let step = part_of_wrapped(world, wrapper, Detail::IsAbstract, FuncArgs { args: &args, kw: &kw });
+            let step = part_of_wrapped(
+                world,
+                wrapper,
+                Detail::IsAbstract,
+                FuncArgs {
+                    args: &args,
+                    kw: &kw,
+                },
+            );
             Ok(marking(step))
         }
         Way::Marks(class) => {
-            let step = mark_by_name(world, class, FuncArgs { args: &args, kw: &kw });
+            let step = mark_by_name(
+                world,
+                class,
+                FuncArgs {
+                    args: &args,
+                    kw: &kw,
+                },
+            );
             Ok(answering(world, step))
         }
         Way::Looks => {
-            let step = super_attribute_by_name(world, FuncArgs { args: &args, kw: &kw })?;
+            let step = super_attribute_by_name(
+                world,
+                FuncArgs {
+                    args: &args,
+                    kw: &kw,
+                },
+            )?;
             Ok(passed(step))
         }
         Way::Starts => {
-            let step = super_init_by_name(world, FuncArgs { args: &args, kw: &kw })?;
+            let step = super_init_by_name(
+                world,
+                FuncArgs {
+                    args: &args,
+                    kw: &kw,
+                },
+            )?;
             Ok(passed(step))
         }
-        Way::Wraps(wrapper) => Ok(ask_for_doc(world, entry, wrapper, FuncArgs { args: &args, kw: &kw })),
+        Way::Wraps(wrapper) => Ok(ask_for_doc(
+            world,
+            entry,
+            wrapper,
+            FuncArgs {
+                args: &args,
+                kw: &kw,
+            },
+        )),
         Way::Makes => {
             let step = new_by_name(world, &args, kw)?;
             Ok(passed(step))

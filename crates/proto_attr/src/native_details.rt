@@ -12,7 +12,9 @@ use crate::native_details::abstracts::{ask_setter, begin_abstract, join, or_not_
 use crate::native_details::names::{begin_name, name_given};
 use class_world::World;
 use py_node::task::{Args, Keywords};
-use py_node::{Answer, BuiltIn, Detail, FuncArgs, NativeEntry, OutOfMemory, PyObjectRef, Raised, Step};
+use py_node::{
+    Answer, BuiltIn, Detail, FuncArgs, NativeEntry, OutOfMemory, PyObjectRef, Raised, Step,
+};
 
 mod abstracts;
 mod names;
@@ -52,7 +54,10 @@ pub fn begin(
     ensures goes { IfOk result (λ step. Begins (task.Native entry args kw) world.old world.new step) }
     ensures safe { Leaves of_detail_kept world.old world.new result }
 {
-    let call = FuncArgs { args: &args, kw: &kw };
+    let call = FuncArgs {
+        args: &args,
+        kw: &kw,
+    };
     match entry {
         NativeEntry::GetterOf(BuiltIn::Property, detail) => {
             Ok(begin_abstract(world, detail, call))

@@ -13,7 +13,10 @@ use class_world::World;
 use class_world::args::{copy_args, filled};
 use class_world::limits::is_within_limit;
 use py_node::task::{Args, Keywords};
-use py_node::{BodyCall, BuiltIn, Cause, EvalTask, FuncArgs, Function, OutOfMemory, Payload, PyAttributes, PyObjectRef, PyStrInterned, Step, Task};
+use py_node::{
+    BodyCall, BuiltIn, Cause, EvalTask, FuncArgs, Function, OutOfMemory, Payload, PyAttributes,
+    PyObjectRef, PyStrInterned, Step, Task,
+};
 use std::alloc::Global;
 use world_text::show::show;
 
@@ -29,7 +32,15 @@ pub(crate) fn begin_body(
     ensures safe { LeavesOpen of_call_kept bodies_of 0 world.old world.new result }
 {
     match function_at(world, f)? {
-        Some(function) => by_place(world, f, &function, FuncArgs { args: &args, kw: &kw }),
+        Some(function) => by_place(
+            world,
+            f,
+            &function,
+            FuncArgs {
+                args: &args,
+                kw: &kw,
+            },
+        ),
         None => Ok(Step::raise(Cause::NotCallable)),
     }
 }

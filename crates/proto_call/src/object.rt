@@ -14,7 +14,10 @@ use crate::texts::{object_dir, object_format, object_ne, object_str};
 use class_world::takes::{one, three, two};
 use class_world::{Fixed, World};
 use py_node::task::{Args, Keywords};
-use py_node::{Answer, AttributeTask, BuiltIn, Cause, FuncArgs, Known, ObjectNative, OutOfMemory, Payload, PyObjectRef, PySetterValue, Raised, Step, Task, caught};
+use py_node::{
+    Answer, AttributeTask, BuiltIn, Cause, FuncArgs, Known, ObjectNative, OutOfMemory, Payload,
+    PyObjectRef, PySetterValue, Raised, Step, Task, caught,
+};
 
 /// A native of `object`.
 pub(crate) fn begin_object(
@@ -27,7 +30,14 @@ pub(crate) fn begin_object(
     ensures goes { IfOk result (λ step. Begins (call.Object native args kw) world.old world.new step) }
     ensures safe { LeavesNone world.old world.new result }
 {
-    let step = object_by(world, native, FuncArgs { args: &args, kw: &kw })?;
+    let step = object_by(
+        world,
+        native,
+        FuncArgs {
+            args: &args,
+            kw: &kw,
+        },
+    )?;
     Ok(step)
 }
 
@@ -119,10 +129,7 @@ fn object_init(world: &World, args: &[PyObjectRef]) -> Step<CallKept>
 }
 
 // What is done for a new class by default: nothing.
-fn object_init_subclass(
-    world: &World,
-    call: FuncArgs<'_>,
-) -> Step<CallKept>
+fn object_init_subclass(world: &World, call: FuncArgs<'_>) -> Step<CallKept>
     ensures goes { Closes (λ t u. object_init_subclass u call.args.now (bindings t call.kw.now)) world.now world.now result }
     ensures safe { OpensNone world.now result }
 {
@@ -152,10 +159,7 @@ fn object_get_attribute(
 }
 
 // An attribute by its name, as objects set it.
-fn object_set_attr(
-    world: &mut World,
-    call: FuncArgs<'_>,
-) -> Result<Step<CallKept>, OutOfMemory>
+fn object_set_attr(world: &mut World, call: FuncArgs<'_>) -> Result<Step<CallKept>, OutOfMemory>
     requires { Holds world.old (AreNodes call.args.now) }
     ensures goes { IfOk result (λ step. Does object.SetAttr (λ t u. object_set_attr u call.args.now (bindings t call.kw.now))
         world.old world.new step) }
@@ -174,10 +178,7 @@ fn object_set_attr(
 }
 
 // An attribute by its name, as objects take it out.
-fn object_del_attr(
-    world: &mut World,
-    call: FuncArgs<'_>,
-) -> Result<Step<CallKept>, OutOfMemory>
+fn object_del_attr(world: &mut World, call: FuncArgs<'_>) -> Result<Step<CallKept>, OutOfMemory>
     requires { Holds world.old (AreNodes call.args.now) }
     ensures goes { IfOk result (λ step. Does object.DelAttr (λ t u. object_del_attr u call.args.now (bindings t call.kw.now))
         world.old world.new step) }

@@ -8,7 +8,9 @@ ghost use Rattle.proto_call.specs.ObjectNatives.{object_text, object_native_say,
 
 use class_world::takes::{one, two};
 use class_world::{Fixed, World};
-use py_node::{Answer, Cause, FuncArgs, ObjectNative, OutOfMemory, PyObjectRef, PyTypeRef, Raised, Stop};
+use py_node::{
+    Answer, Cause, FuncArgs, ObjectNative, OutOfMemory, PyObjectRef, PyTypeRef, Raised, Stop,
+};
 use row_kit::class_names::{in_module, limited_text, module_of, qualname};
 use std::alloc::Global;
 
@@ -68,10 +70,7 @@ pub fn object_native(
 }
 
 // The text of an object: its class and its number.
-fn object_repr(
-    world: &mut World,
-    call: FuncArgs<'_>,
-) -> Result<Answer, Stop>
+fn object_repr(world: &mut World, call: FuncArgs<'_>) -> Result<Answer, Stop>
     requires { Holds world.old (AreNodes call.args.now) }
     ensures ends { Ended result (EndsAs (λ t u. object_repr u call.args.now (bindings t call.kw.now))
         world.old world.new) }
@@ -92,10 +91,7 @@ fn object_hash(call: FuncArgs<'_>) -> Result<Answer, Raised>
 }
 
 // An object is equal to itself. Of others the native says nothing.
-fn object_eq(
-    world: &World,
-    call: FuncArgs<'_>,
-) -> Result<Answer, Raised>
+fn object_eq(world: &World, call: FuncArgs<'_>) -> Result<Answer, Raised>
     ensures ends { EndsAs (λ t u. object_eq u call.args.now (bindings t call.kw.now)) world.now world.now result }
     ensures holds { AllHold world.now (of_ended result) }
 {
@@ -108,10 +104,7 @@ fn object_eq(
 }
 
 // Two objects of which the native says nothing.
-fn says_nothing(
-    world: &World,
-    call: FuncArgs<'_>,
-) -> Result<Answer, Raised>
+fn says_nothing(world: &World, call: FuncArgs<'_>) -> Result<Answer, Raised>
     ensures ends { EndsAs (λ t u. says_nothing u call.args.now (bindings t call.kw.now)) world.now world.now result }
     ensures holds { AllHold world.now (of_ended result) }
 {

@@ -8,14 +8,14 @@ ghost use Rattle.proto_call.specs.Rows.{Does, OpensNone, Resumes};
 use crate::CallKept;
 use class_world::World;
 use class_world::takes::{one, two};
-use py_node::{Answer, Cause, CompareTask, FuncArgs, ObjectTask, Payload, ProtocolTask, PyComparisonOp, PyObjectRef, Raised, Step, Task};
+use py_node::{
+    Answer, Cause, CompareTask, FuncArgs, ObjectTask, Payload, ProtocolTask, PyComparisonOp,
+    PyObjectRef, Raised, Step, Task,
+};
 use row_kit::questions::is_not_implemented;
 
 // The text of an object is that by which it is represented.
-pub(crate) fn object_str(
-    world: &World,
-    call: FuncArgs<'_>,
-) -> Step<CallKept>
+pub(crate) fn object_str(world: &World, call: FuncArgs<'_>) -> Step<CallKept>
     requires { Holds world.now (AreNodes call.args.now) }
     ensures goes { Does object.Str (λ t u. object_str u call.args.now (bindings t call.kw.now)) world.now world.now result }
     ensures safe { OpensNone world.now result }
@@ -27,10 +27,7 @@ pub(crate) fn object_str(
 }
 
 // The text of an object by a specification, of which none is known but the empty one.
-pub(crate) fn object_format(
-    world: &World,
-    call: FuncArgs<'_>,
-) -> Step<CallKept>
+pub(crate) fn object_format(world: &World, call: FuncArgs<'_>) -> Step<CallKept>
     requires { Holds world.now (AreNodes call.args.now) }
     ensures goes { Does object.Format (λ t u. object_format u call.args.now (bindings t call.kw.now)) world.now world.now result }
     ensures safe { OpensNone world.now result }
@@ -51,10 +48,7 @@ pub(crate) fn object_format(
 }
 
 // The names of an object's attributes.
-pub(crate) fn object_dir(
-    world: &World,
-    call: FuncArgs<'_>,
-) -> Step<CallKept>
+pub(crate) fn object_dir(world: &World, call: FuncArgs<'_>) -> Step<CallKept>
     requires { Holds world.now (AreNodes call.args.now) }
     ensures goes { Does object.Dir (λ t u. object_dir u call.args.now (bindings t call.kw.now)) world.now world.now result }
     ensures safe { OpensNone world.now result }
@@ -66,10 +60,7 @@ pub(crate) fn object_dir(
 }
 
 // Whether two objects are not equal: the class of the first is asked whether they are.
-pub(crate) fn object_ne(
-    world: &World,
-    call: FuncArgs<'_>,
-) -> Step<CallKept>
+pub(crate) fn object_ne(world: &World, call: FuncArgs<'_>) -> Step<CallKept>
     requires { Holds world.now (AreNodes call.args.now) }
     ensures goes { Does object.Ne (λ t u. object_ne u call.args.now (bindings t call.kw.now)) world.now world.now result }
     ensures safe { OpensNone world.now result }

@@ -11,7 +11,9 @@ ghost use Rattle.proto_object.specs.Rows.{Begins, of_object_kept};
 use crate::ObjectKept;
 use class_world::World;
 use py_node::task::Args;
-use py_node::{Answer, BuiltIn, OutOfMemory, Payload, PyAttributes, PyObjectRef, Step, Stop, caught};
+use py_node::{
+    Answer, BuiltIn, OutOfMemory, Payload, PyAttributes, PyObjectRef, Step, Stop, caught,
+};
 use row_kit::class_attributes::key_all;
 use row_kit::entries::keys_of;
 use row_kit::give::new_sized;

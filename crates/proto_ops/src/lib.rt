@@ -27,7 +27,10 @@ use enter::{begin_enter, begin_enter_power};
 use int::begin_int;
 use joins::{begin_add, begin_concat, begin_inplace_add, begin_inplace_concat, inplace_join, join};
 use powers::{Tried, begin_inplace_power, begin_power, plain_power, power_last, power_next};
-use py_node::{Answer, Cause, OperatorTask, OutOfMemory, PyNumberBinaryOp, PyObjectRef, Raised, SlotEntry, Step, caught};
+use py_node::{
+    Answer, Cause, OperatorTask, OutOfMemory, PyNumberBinaryOp, PyObjectRef, Raised, SlotEntry,
+    Step, caught,
+};
 use repeats::{
     begin_inplace_mul, begin_inplace_repeat, begin_mul, begin_repeat, inplace_repeat_one,
     inplace_times, repeat_one, times,

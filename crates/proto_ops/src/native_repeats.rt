@@ -20,7 +20,9 @@ use class_world::takes::two;
 pub use count::{check_repeat_or_overflow_error, count_in};
 use py_node::protocol::ProtocolTask;
 use py_node::task::{Args, Keywords};
-use py_node::{Answer, FuncArgs, NativeEntry, OutOfMemory, PyObjectRef, Raised, Step, Task, caught};
+use py_node::{
+    Answer, FuncArgs, NativeEntry, OutOfMemory, PyObjectRef, Raised, Step, Task, caught,
+};
 pub use repeated::native_repeat;
 
 /// What a repetition by name keeps while it waits for the index that tells how often.
@@ -53,7 +55,15 @@ pub fn begin(
 {
     match kind_of(entry) {
         None => Ok(Step::elsewhere()),
-        Some(kind) => begin_kind(world, entry, kind, FuncArgs { args: &args, kw: &kw }),
+        Some(kind) => begin_kind(
+            world,
+            entry,
+            kind,
+            FuncArgs {
+                args: &args,
+                kw: &kw,
+            },
+        ),
     }
 }
 

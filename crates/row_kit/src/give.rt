@@ -10,11 +10,7 @@ use class_world::{Fixed, World};
 use py_node::{Answer, BuiltIn, Cause, Payload, PyObjectRef, Raised, SequenceIterator, Stop};
 
 /// Ends with a new object of a built-in class.
-pub fn new_object(
-    world: &mut World,
-    class: BuiltIn,
-    payload: Payload,
-) -> Result<Answer, Stop>
+pub fn new_object(world: &mut World, class: BuiltIn, payload: Payload) -> Result<Answer, Stop>
     requires of { holds_as class ≡ home_of payload }
     requires holds { AllHold world.old (of_payload payload) }
     requires other { class_in payload ≡ None }
@@ -27,11 +23,7 @@ pub fn new_object(
 }
 
 /// Ends with a new text, tuple, list or dict, where it has no more bytes or items than there may be.
-pub fn new_sized(
-    world: &mut World,
-    class: BuiltIn,
-    payload: Payload,
-) -> Result<Answer, Stop>
+pub fn new_sized(world: &mut World, class: BuiltIn, payload: Payload) -> Result<Answer, Stop>
     requires of { holds_as class ≡ home_of payload }
     requires holds { AllHold world.old (of_payload payload) }
     requires other { class_in payload ≡ None }
@@ -59,17 +51,14 @@ fn size_of(payload: &Payload) -> usize
 }
 
 /// Ends with a new whole number, or with a fault.
-pub fn new_int(
-    world: &mut World,
-    number: Result<i128, Raised>,
-) -> Result<Answer, Stop>
+pub fn new_int(world: &mut World, number: Result<i128, Raised>) -> Result<Answer, Stop>
     ensures ends { Ended result (EndsAs (λ t u. int_made u number) world.old world.new) }
     ensures safe { LeavesEnd world.old world.new result }
 {
     let z = number?;
-        let class = world.built_in(BuiltIn::Int);
-        let node = world.make_node(class, Payload::Number(z))?;
-        Ok(Answer::Value(node))
+    let class = world.built_in(BuiltIn::Int);
+    let node = world.make_node(class, Payload::Number(z))?;
+    Ok(Answer::Value(node))
 }
 
 /// Ends with a new text.
@@ -92,10 +81,7 @@ pub fn new_word(world: &mut World, word: &str) -> Result<Answer, Stop>
 }
 
 /// Ends with a new iterator over an object, whose first item is the next.
-pub fn new_iterator(
-    world: &mut World,
-    object: PyObjectRef,
-) -> Result<Answer, Stop>
+pub fn new_iterator(world: &mut World, object: PyObjectRef) -> Result<Answer, Stop>
     requires { Holds world.old (IsNode object) }
     ensures ends { Ended result (EndsAs (λ t u. iterator_made u object) world.old world.new) }
     ensures safe { LeavesEnd world.old world.new result }
@@ -109,10 +95,7 @@ pub fn new_iterator(
 
 /// Ends with an object, as a native does that is called by name or by which an attribute is read: of a number that it
 /// told, a new one, and None where it told nothing. Other answers and faults stay.
-pub fn as_object(
-    world: &mut World,
-    answer: Result<Answer, Raised>,
-) -> Result<Answer, Stop>
+pub fn as_object(world: &mut World, answer: Result<Answer, Raised>) -> Result<Answer, Stop>
     requires { AllHold world.old (of_ended answer) }
     ensures ends { Ended result (EndsAs (λ t u. named_end u (ended_of answer) []) world.old world.new) }
     ensures safe { LeavesEnd world.old world.new result }

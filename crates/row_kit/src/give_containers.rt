@@ -36,10 +36,7 @@ pub fn new_list(world: &mut World, items: Args) -> Result<Answer, Stop>
 }
 
 /// A new tuple for each key of a dict with its value, and then a new list of these.
-pub fn new_pairs(
-    world: &mut World,
-    dict: PyObjectRef,
-) -> Result<Answer, Stop>
+pub fn new_pairs(world: &mut World, dict: PyObjectRef) -> Result<Answer, Stop>
     requires { Holds world.old (IsNode dict) }
     ensures ends { Ended result (EndsAs (λ t u. pairs_made u [] (entries_at u dict)) world.old world.new) }
     ensures safe { LeavesEnd world.old world.new result }

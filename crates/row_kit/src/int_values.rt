@@ -23,11 +23,7 @@ pub fn truth_of(object: PyObjectRef) -> Option<bool>
 }
 
 /// A number as an int: an int of no other class is itself.
-pub fn as_int(
-    world: &mut World,
-    o: PyObjectRef,
-    z: i128,
-) -> Result<Answer, Stop>
+pub fn as_int(world: &mut World, o: PyObjectRef, z: i128) -> Result<Answer, Stop>
     requires { Holds world.old (IsNode o) }
     ensures ends { Ended result (EndsAs (λ t u. as_int u o z) world.old world.new) }
     ensures safe { LeavesEnd world.old world.new result }

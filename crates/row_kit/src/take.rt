@@ -26,10 +26,7 @@ pub fn own_number(world: &World, args: &[PyObjectRef]) -> Result<i128, Raised>
 }
 
 /// The only argument and the number that it holds, or why the arguments are refused.
-pub fn lone_number(
-    world: &World,
-    call: FuncArgs<'_>,
-) -> Result<(PyObjectRef, i128), Raised>
+pub fn lone_number(world: &World, call: FuncArgs<'_>) -> Result<(PyObjectRef, i128), Raised>
     requires { Holds world.now (AreNodes call.args.now) }
     ensures given { IfOk result (λ p. (t : Reading) (go : Object → ℤ → Said) →
         with_lone_number (plain t world.now) call.args.now (bindings t call.kw.now) go ≡ go p.0 p.1) }
@@ -43,10 +40,7 @@ pub fn lone_number(
 }
 
 /// The number that the first argument holds, and the second argument, or why the arguments are refused.
-pub fn number_and(
-    world: &World,
-    call: FuncArgs<'_>,
-) -> Result<(i128, PyObjectRef), Raised>
+pub fn number_and(world: &World, call: FuncArgs<'_>) -> Result<(i128, PyObjectRef), Raised>
     requires { Holds world.now (AreNodes call.args.now) }
     ensures given { IfOk result (λ p. (t : Reading) (go : ℤ → Object → Said) →
         with_number_and (plain t world.now) call.args.now (bindings t call.kw.now) go ≡ go p.0 p.1) }
@@ -80,10 +74,7 @@ pub fn numbers_of(
 }
 
 /// The two numbers that the arguments hold, or how the native ends without them.
-pub fn numbers(
-    world: &World,
-    call: FuncArgs<'_>,
-) -> Result<(i128, i128), Result<Answer, Raised>>
+pub fn numbers(world: &World, call: FuncArgs<'_>) -> Result<(i128, i128), Result<Answer, Raised>>
     requires { Holds world.now (AreNodes call.args.now) }
     ensures given { IfOk result (λ p. (t : Reading) (go : ℤ → ℤ → Said) →
         with_numbers (plain t world.now) call.args.now (bindings t call.kw.now) go ≡ go p.0 p.1) }

@@ -44,10 +44,7 @@ pub fn own_class(world: &World, args: &[PyObjectRef]) -> Result<PyTypeRef, Raise
 }
 
 /// The class that the only argument is, or why the arguments are refused.
-pub fn lone_class(
-    world: &World,
-    call: FuncArgs<'_>,
-) -> Result<PyTypeRef, Raised>
+pub fn lone_class(world: &World, call: FuncArgs<'_>) -> Result<PyTypeRef, Raised>
     requires { Holds world.now (AreNodes call.args.now) }
     ensures given { IfOk result (λ c. (t : Reading) (go : ℕ → Said) →
         with_lone_class (plain t world.now) call.args.now (bindings t call.kw.now) go ≡ go c.0) }

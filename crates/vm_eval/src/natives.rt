@@ -68,7 +68,14 @@ pub fn begin(
             Ok(of_calls(step))
         }
         Family::Plain => {
-            let answer = caught(plain_native(world, entry, FuncArgs { args: &args, kw: &kw }))?;
+            let answer = caught(plain_native(
+                world,
+                entry,
+                FuncArgs {
+                    args: &args,
+                    kw: &kw,
+                },
+            ))?;
             Ok(Step::End(answer))
         }
     }

@@ -15,7 +15,9 @@ use crate::native_texts::take::{text_and, text_of};
 use crate::native_texts::text_length;
 use class_world::{Fixed, World};
 use py_node::protocol::ProtocolTask;
-use py_node::{Answer, Cause, FuncArgs, OutOfMemory, PyObjectRef, PySlice, Raised, Step, Stop, Task, caught};
+use py_node::{
+    Answer, Cause, FuncArgs, OutOfMemory, PyObjectRef, PySlice, Raised, Step, Stop, Task, caught,
+};
 use row_kit::give::new_text;
 use std::alloc::Global;
 

@@ -14,15 +14,14 @@ use class_world::World;
 use class_world::limits::is_within_limit;
 use py_node::protocol::ProtocolTask;
 use py_node::task::Args;
-use py_node::{Answer, Cause, FuncArgs, OutOfMemory, Payload, PyObjectRef, Raised, Step, Stop, Task};
+use py_node::{
+    Answer, Cause, FuncArgs, OutOfMemory, Payload, PyObjectRef, Raised, Step, Stop, Task,
+};
 use row_kit::proto_base::is_plain;
 use row_kit::take_containers::{Kind, items};
 
 /// A list gets the items of an iteration after its own, and is the answer.
-pub(crate) fn extend_list(
-    world: &World,
-    call: FuncArgs<'_>,
-) -> Result<Step<ItemKept>, OutOfMemory>
+pub(crate) fn extend_list(world: &World, call: FuncArgs<'_>) -> Result<Step<ItemKept>, OutOfMemory>
     requires { Holds world.now (AreNodes call.args.now) }
     ensures goes { IfOk result (λ step. Enters (OfList InplaceAdd) call.args.now call.kw.now world.now world.now step) }
     ensures safe { Leaves of_item_kept world.now world.now result }
@@ -76,11 +75,7 @@ pub(crate) fn list_extended(
 }
 
 // A list with others after its items is the answer, unless they are too many.
-fn push_all(
-    world: &mut World,
-    list: PyObjectRef,
-    others: &[PyObjectRef],
-) -> Result<Answer, Stop>
+fn push_all(world: &mut World, list: PyObjectRef, others: &[PyObjectRef]) -> Result<Answer, Stop>
     requires list { Holds world.old (IsNode list) }
     requires holding { Holds world.old (Holding list List) }
     requires others { Holds world.old (AreNodes others.now) }

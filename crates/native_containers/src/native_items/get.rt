@@ -13,7 +13,9 @@ use crate::take::own_and;
 use class_world::World;
 use py_node::protocol::ProtocolTask;
 use py_node::task::Args;
-use py_node::{Answer, Cause, FuncArgs, OutOfMemory, PyObjectRef, Raised, Step, Stop, Task, caught};
+use py_node::{
+    Answer, Cause, FuncArgs, OutOfMemory, PyObjectRef, Raised, Step, Stop, Task, caught,
+};
 use row_kit::give_containers::{new_list, new_tuple};
 use row_kit::take_containers::{Kind, items};
 
@@ -78,11 +80,7 @@ fn item_asked(
 }
 
 // Ends with a new object of these items.
-fn made(
-    world: &mut World,
-    sequence: Sequence,
-    items: Args,
-) -> Result<Answer, Stop>
+fn made(world: &mut World, sequence: Sequence, items: Args) -> Result<Answer, Stop>
     requires { Holds world.old (AreNodes items.items) }
     ensures ends { Ended result (EndsAs (λ t u. made_as sequence u items.items) world.old world.new) }
     ensures safe { LeavesEnd world.old world.new result }

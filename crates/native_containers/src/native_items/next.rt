@@ -9,7 +9,10 @@ use crate::native_items::ItemKept;
 use crate::take::lone;
 use class_world::World;
 use class_world::args::alone;
-use py_node::{Answer, AttributeTask, BuiltIn, Cause, FuncArgs, Kind as FaultKind, Known, OutOfMemory, Payload, PyObjectRef, Raised, SequenceIterator, Step, Task};
+use py_node::{
+    Answer, AttributeTask, BuiltIn, Cause, FuncArgs, Kind as FaultKind, Known, OutOfMemory,
+    Payload, PyObjectRef, Raised, SequenceIterator, Step, Task,
+};
 use row_kit::take_containers::Kind;
 
 /// What an object has at a place: an item, a character, or nothing; or it must be asked.

@@ -22,10 +22,7 @@ pub struct Hashing {
 }
 
 /// Asks the items of a tuple for their hashes.
-pub(crate) fn begin_hash(
-    world: &World,
-    call: FuncArgs<'_>,
-) -> Result<Step<PartsKept>, OutOfMemory>
+pub(crate) fn begin_hash(world: &World, call: FuncArgs<'_>) -> Result<Step<PartsKept>, OutOfMemory>
     requires { Holds world.now (AreNodes call.args.now) }
     ensures goes { IfOk result (λ step.
         Starts (OfTuple tuple.Hash) call.args.now call.kw.now world.now world.now step) }

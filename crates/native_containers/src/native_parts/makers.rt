@@ -12,7 +12,10 @@ use crate::native_parts::take::{one_at_most, own_list, text_at};
 use class_world::{Fixed, World};
 use py_node::protocol::ProtocolTask;
 use py_node::task::Args;
-use py_node::{Answer, BuiltIn, FuncArgs, ObjectTask, OutOfMemory, Payload, PyObjectRef, PyTypeRef, Raised, Step, Task};
+use py_node::{
+    Answer, BuiltIn, FuncArgs, ObjectTask, OutOfMemory, Payload, PyObjectRef, PyTypeRef, Raised,
+    Step, Task,
+};
 use row_kit::take_classes::heir;
 
 /// A new text is that of an object, or empty.

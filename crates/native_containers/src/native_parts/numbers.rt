@@ -9,7 +9,10 @@ use crate::native_parts::PartsKept;
 use crate::native_parts::take::one_at_most;
 use class_world::World;
 use py_node::protocol::ProtocolTask;
-use py_node::{Answer, BuiltIn, Cause, FuncArgs, OutOfMemory, Payload, PyObjectRef, PyTypeRef, Raised, Step, Task};
+use py_node::{
+    Answer, BuiltIn, Cause, FuncArgs, OutOfMemory, Payload, PyObjectRef, PyTypeRef, Raised, Step,
+    Task,
+};
 use row_kit::take_classes::heir;
 
 /// A new whole number is that of an object, or 0.
@@ -64,10 +67,7 @@ pub(crate) fn int_made(
 }
 
 /// A truth value is that of an object, or False.
-pub(crate) fn begin_bool(
-    world: &World,
-    call: FuncArgs<'_>,
-) -> Step<PartsKept>
+pub(crate) fn begin_bool(world: &World, call: FuncArgs<'_>) -> Step<PartsKept>
     requires { Holds world.now (AreNodes call.args.now) }
     ensures goes { Starts (NewOf built_in.Bool) call.args.now call.kw.now world.now world.now result }
     ensures safe { AllHold world.now (of_step of_parts_kept result) }

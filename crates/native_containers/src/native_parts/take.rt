@@ -81,9 +81,7 @@ pub(crate) fn own_list(world: &World, args: &[PyObjectRef]) -> Result<PyObjectRe
 }
 
 /// The argument after the first, if there is one, or why the arguments are refused.
-pub(crate) fn one_at_most(
-    call: FuncArgs<'_>,
-) -> Result<Option<PyObjectRef>, Raised>
+pub(crate) fn one_at_most(call: FuncArgs<'_>) -> Result<Option<PyObjectRef>, Raised>
     ensures given { IfOk result (λ o. (t : Reading) (w : PlainWorld) (without : Said) (go : Object → Said) →
         with_one_at_most w call.args.now (bindings t call.kw.now) without go ≡ chosen without go o) }
     ensures refused { IfErr result (λ x. (t : Reading) (w : PlainWorld) (without : Said) (go : Object → Said) →

@@ -11,7 +11,9 @@ use crate::native_parts::take::{Container, lone, part_at, parts_of, text_at};
 use class_world::World;
 use class_world::limits::{MOST_ITEMS, is_within_limit};
 use py_node::task::Args;
-use py_node::{Answer, Cause, FuncArgs, ObjectTask, OutOfMemory, PyObjectRef, Raised, Step, Stop, Task, caught};
+use py_node::{
+    Answer, Cause, FuncArgs, ObjectTask, OutOfMemory, PyObjectRef, Raised, Step, Stop, Task, caught,
+};
 use row_kit::give::new_text;
 
 /// The parts of a container, how many of them were asked for their texts, and the texts that were answered.
@@ -117,11 +119,7 @@ fn object_of(answer: Result<Answer, Raised>) -> Result<PyObjectRef, Result<Answe
 }
 
 // Ends with the text of a container whose parts have these.
-fn end_text(
-    world: &mut World,
-    container: Container,
-    texts: &[PyObjectRef],
-) -> Result<Answer, Stop>
+fn end_text(world: &mut World, container: Container, texts: &[PyObjectRef]) -> Result<Answer, Stop>
     requires { Holds world.old (AreNodes texts.now) }
     ensures ends { Ended result (EndsAs (λ t u. text_ends u container texts.now) world.old world.new) }
     ensures safe { LeavesEnd world.old world.new result }

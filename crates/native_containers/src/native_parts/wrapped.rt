@@ -11,7 +11,10 @@ use crate::native_parts::take::text_at;
 use class_world::World;
 use class_world::limits::is_within_limit;
 use class_world::takes::one;
-use py_node::{Answer, Cause, FuncArgs, ObjectTask, OutOfMemory, Payload, PyObjectRef, Raised, Step, Stop, Task, caught};
+use py_node::{
+    Answer, Cause, FuncArgs, ObjectTask, OutOfMemory, Payload, PyObjectRef, Raised, Step, Stop,
+    Task, caught,
+};
 use row_kit::give::new_text;
 
 /// A class method or a static method.
@@ -22,11 +25,7 @@ pub enum Wrapper {
 }
 
 /// Asks for the text of what a class method or a static method wraps.
-pub(crate) fn begin_wrapped(
-    world: &World,
-    wrapper: Wrapper,
-    call: FuncArgs<'_>,
-) -> Step<PartsKept>
+pub(crate) fn begin_wrapped(world: &World, wrapper: Wrapper, call: FuncArgs<'_>) -> Step<PartsKept>
     requires { Holds world.now (AreNodes call.args.now) }
     ensures goes { Starts (repr_of_wrapper wrapper) call.args.now call.kw.now world.now world.now result }
     ensures safe { AllHold world.now (of_step of_parts_kept result) }
@@ -96,11 +95,7 @@ pub(crate) fn wrapped_given(
 }
 
 // The text of a class method or a static method, unless it is too long.
-fn wrapper_text(
-    world: &World,
-    wrapper: Wrapper,
-    wrapped: PyObjectRef,
-) -> Result<String, Stop>
+fn wrapper_text(world: &World, wrapper: Wrapper, wrapped: PyObjectRef) -> Result<String, Stop>
     requires { Holds world.now (IsNode wrapped) }
     ensures text { IfOk result (λ s. (t : Reading) →
         in_length (wrapper_text wrapper (text_at (plain t world.now) wrapped)) ≡ Ok (string_bytes s)) }

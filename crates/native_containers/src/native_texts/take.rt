@@ -37,10 +37,7 @@ pub fn own_text<'a>(world: &'a World, args: &[PyObjectRef]) -> Result<&'a str, R
 }
 
 /// The only argument and the text that it holds, or why the arguments are refused.
-pub fn lone_text<'a>(
-    world: &'a World,
-    call: FuncArgs<'_>,
-) -> Result<(PyObjectRef, &'a str), Raised>
+pub fn lone_text<'a>(world: &'a World, call: FuncArgs<'_>) -> Result<(PyObjectRef, &'a str), Raised>
     requires { Holds world.now (AreNodes call.args.now) }
     ensures given { IfOk result (λ p. (t : Reading) (go : Object → Text → Said) →
         with_lone_text (plain t world.now) call.args.now (bindings t call.kw.now) go ≡ go p.0 p.1.now) }
@@ -54,10 +51,7 @@ pub fn lone_text<'a>(
 }
 
 /// The text that the first argument holds, and the second argument, or why the arguments are refused.
-pub fn text_and<'a>(
-    world: &'a World,
-    call: FuncArgs<'_>,
-) -> Result<(&'a str, PyObjectRef), Raised>
+pub fn text_and<'a>(world: &'a World, call: FuncArgs<'_>) -> Result<(&'a str, PyObjectRef), Raised>
     requires { Holds world.now (AreNodes call.args.now) }
     ensures given { IfOk result (λ p. (t : Reading) (go : Text → Object → Said) →
         with_text_and (plain t world.now) call.args.now (bindings t call.kw.now) go ≡ go p.0.now p.1) }

@@ -13,11 +13,7 @@ use row_kit::class_names::limited_text;
 use row_kit::give::{new_iterator, new_text};
 
 /// A native of texts. Those that ask a task are not done here.
-pub fn text_native(
-    world: &mut World,
-    native: StrNative,
-    call: FuncArgs<'_>,
-) -> Result<Answer, Stop>
+pub fn text_native(world: &mut World, native: StrNative, call: FuncArgs<'_>) -> Result<Answer, Stop>
     requires { Holds world.old (AreNodes call.args.now) }
     ensures ends { Ended result (EndsAs (λ t u. text_say u native call.args.now (bindings t call.kw.now))
         world.old world.new) }
@@ -39,25 +35,19 @@ pub fn text_native(
 }
 
 // The text as Python writes it.
-fn str_repr(
-    world: &mut World,
-    call: FuncArgs<'_>,
-) -> Result<Answer, Stop>
+fn str_repr(world: &mut World, call: FuncArgs<'_>) -> Result<Answer, Stop>
     requires { Holds world.old (AreNodes call.args.now) }
     ensures ends { Ended result (EndsAs (λ t u. str_repr u call.args.now (bindings t call.kw.now))
         world.old world.new) }
     ensures safe { LeavesEnd world.old world.new result }
 {
     let (_, text) = lone_text(world, call)?;
-        let quoted = repr_text(world.alloc(), text)?;
-        limited_text(world, quoted)
+    let quoted = repr_text(world.alloc(), text)?;
+    limited_text(world, quoted)
 }
 
 // The text itself, as a str of no other class.
-fn str_str(
-    world: &mut World,
-    call: FuncArgs<'_>,
-) -> Result<Answer, Stop>
+fn str_str(world: &mut World, call: FuncArgs<'_>) -> Result<Answer, Stop>
     requires { Holds world.old (AreNodes call.args.now) }
     ensures ends { Ended result (EndsAs (λ t u. str_str u call.args.now (bindings t call.kw.now))
         world.old world.new) }
@@ -74,10 +64,7 @@ fn str_str(
 }
 
 // The hash of the text.
-fn str_hash(
-    world: &World,
-    call: FuncArgs<'_>,
-) -> Result<Answer, Raised>
+fn str_hash(world: &World, call: FuncArgs<'_>) -> Result<Answer, Raised>
     requires { Holds world.now (AreNodes call.args.now) }
     ensures ends { EndsAs (λ t u. str_hash u call.args.now (bindings t call.kw.now)) world.now world.now result }
     ensures holds { AllHold world.now (of_ended result) }
@@ -87,10 +74,7 @@ fn str_hash(
 }
 
 // How many characters the text has.
-fn str_len(
-    world: &World,
-    call: FuncArgs<'_>,
-) -> Result<Answer, Raised>
+fn str_len(world: &World, call: FuncArgs<'_>) -> Result<Answer, Raised>
     requires { Holds world.now (AreNodes call.args.now) }
     ensures ends { EndsAs (λ t u. str_len u call.args.now (bindings t call.kw.now)) world.now world.now result }
     ensures holds { AllHold world.now (of_ended result) }
@@ -100,10 +84,7 @@ fn str_len(
 }
 
 // An iterator over the characters of the text.
-fn str_iter(
-    world: &mut World,
-    call: FuncArgs<'_>,
-) -> Result<Answer, Stop>
+fn str_iter(world: &mut World, call: FuncArgs<'_>) -> Result<Answer, Stop>
     requires { Holds world.old (AreNodes call.args.now) }
     ensures ends { Ended result (EndsAs (λ t u. str_iter u call.args.now (bindings t call.kw.now))
         world.old world.new) }
@@ -114,25 +95,19 @@ fn str_iter(
 }
 
 // The text with the letters of ASCII in upper case.
-fn str_upper(
-    world: &mut World,
-    call: FuncArgs<'_>,
-) -> Result<Answer, Stop>
+fn str_upper(world: &mut World, call: FuncArgs<'_>) -> Result<Answer, Stop>
     requires { Holds world.old (AreNodes call.args.now) }
     ensures ends { Ended result (EndsAs (λ t u. str_upper u call.args.now (bindings t call.kw.now))
         world.old world.new) }
     ensures safe { LeavesEnd world.old world.new result }
 {
     let (_, text) = lone_text(world, call)?;
-        let upper = text.to_ascii_uppercase(world.alloc())?;
-        new_text(world, upper)
+    let upper = text.to_ascii_uppercase(world.alloc())?;
+    new_text(world, upper)
 }
 
 // Both texts, one after the other.
-fn str_add(
-    world: &mut World,
-    call: FuncArgs<'_>,
-) -> Result<Answer, Stop>
+fn str_add(world: &mut World, call: FuncArgs<'_>) -> Result<Answer, Stop>
     requires { Holds world.old (AreNodes call.args.now) }
     ensures ends { Ended result (EndsAs (λ t u. str_add u call.args.now (bindings t call.kw.now))
         world.old world.new) }
@@ -150,10 +125,7 @@ fn str_add(
 }
 
 // Whether the other text stands somewhere in the first.
-fn str_contains(
-    world: &World,
-    call: FuncArgs<'_>,
-) -> Result<Answer, Raised>
+fn str_contains(world: &World, call: FuncArgs<'_>) -> Result<Answer, Raised>
     requires { Holds world.now (AreNodes call.args.now) }
     ensures ends { EndsAs (λ t u. str_contains u call.args.now (bindings t call.kw.now)) world.now world.now result }
     ensures holds { AllHold world.now (of_ended result) }

@@ -18,16 +18,15 @@ use crate::proto_descr::{
 };
 use class_world::World;
 use class_world::takes::{one, two};
-use py_node::{Answer, Cause, FuncArgs, NativeEntry, OutOfMemory, Payload, PyObjectRef, Raised, Step, Stop};
+use py_node::{
+    Answer, Cause, FuncArgs, NativeEntry, OutOfMemory, Payload, PyObjectRef, Raised, Step, Stop,
+};
 
 // What is bound, to which object, and for which class.
 pub(crate) type Bound = (PyObjectRef, PyObjectRef, Option<PyObjectRef>);
 
 /// What a function gives for an object, and for a class if there is one.
-pub(crate) fn function_get_by_name(
-    world: &mut World,
-    call: FuncArgs<'_>,
-) -> Result<Answer, Stop>
+pub(crate) fn function_get_by_name(world: &mut World, call: FuncArgs<'_>) -> Result<Answer, Stop>
     requires { Holds world.old (AreNodes call.args.now) }
     ensures ends { Ended result (EndsAs (λ t u. function_get_by_name u call.args.now (bindings t call.kw.now))
         world.old world.new) }
@@ -38,10 +37,7 @@ pub(crate) fn function_get_by_name(
 }
 
 /// What a native as a method gives for an object, and for a class if there is one.
-pub(crate) fn native_get_by_name(
-    world: &mut World,
-    call: FuncArgs<'_>,
-) -> Result<Answer, Stop>
+pub(crate) fn native_get_by_name(world: &mut World, call: FuncArgs<'_>) -> Result<Answer, Stop>
     requires { Holds world.old (AreNodes call.args.now) }
     ensures ends { Ended result (EndsAs (λ t u. native_get_by_name u call.args.now (bindings t call.kw.now))
         world.old world.new) }
@@ -52,10 +48,7 @@ pub(crate) fn native_get_by_name(
 }
 
 /// What the descriptor of a getter gives for an object.
-pub(crate) fn getset_get_by_name(
-    world: &World,
-    call: FuncArgs<'_>,
-) -> Result<Step<()>, OutOfMemory>
+pub(crate) fn getset_get_by_name(world: &World, call: FuncArgs<'_>) -> Result<Step<()>, OutOfMemory>
     requires { Holds world.now (AreNodes call.args.now) }
     ensures steps { IfOk result (λ step. StepsAs (λ t u. getset_get_by_name u call.args.now (bindings t call.kw.now))
         world.now world.now step) }
@@ -68,10 +61,7 @@ pub(crate) fn getset_get_by_name(
 }
 
 /// What a static method gives.
-pub(crate) fn static_method_by_name(
-    world: &World,
-    call: FuncArgs<'_>,
-) -> Result<Answer, Raised>
+pub(crate) fn static_method_by_name(world: &World, call: FuncArgs<'_>) -> Result<Answer, Raised>
     requires { Holds world.now (AreNodes call.args.now) }
     ensures ends { EndsAs (λ t u. static_method_by_name u call.args.now (bindings t call.kw.now)) world.now world.now result }
     ensures holds { AllHold world.now (of_ended result) }
@@ -137,11 +127,7 @@ pub(crate) fn resume_class_method(
 }
 
 // What is bound, to which object, and for which class, or why the arguments are refused.
-pub(crate) fn bound(
-    world: &World,
-    kind: Kind,
-    call: FuncArgs<'_>,
-) -> Result<Bound, Raised>
+pub(crate) fn bound(world: &World, kind: Kind, call: FuncArgs<'_>) -> Result<Bound, Raised>
     requires { Holds world.now (AreNodes call.args.now) }
     ensures given { IfOk result (λ p. (t : Reading) (go : Object → Object → Option Object → Said) →
         get_by_name (plain t world.now) (is_of_kind kind) call.args.now (bindings t call.kw.now) go ≡ go p.0 p.1 p.2) }

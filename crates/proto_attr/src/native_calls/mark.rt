@@ -7,14 +7,13 @@ ghost use Rattle.proto_attr.specs.NativeCalls.Parts.{mark_by_name, marked_in};
 
 use crate::native_calls::bind::object_and_class;
 use class_world::{Fixed, World};
-use py_node::{Answer, AttributeTask, BuiltIn, Cause, FuncArgs, Known, Payload, PyObjectRef, PySetterValue, Raised, Step, Task};
+use py_node::{
+    Answer, AttributeTask, BuiltIn, Cause, FuncArgs, Known, Payload, PyObjectRef, PySetterValue,
+    Raised, Step, Task,
+};
 
 /// What an object of a class wraps, or the getter of a property, is marked as abstract. The mark can't be taken out.
-pub(crate) fn mark_by_name(
-    world: &World,
-    class: BuiltIn,
-    call: FuncArgs<'_>,
-) -> Step<()>
+pub(crate) fn mark_by_name(world: &World, class: BuiltIn, call: FuncArgs<'_>) -> Step<()>
     requires { Holds world.now (AreNodes call.args.now) }
     ensures steps { StepsAs (λ t u. mark_by_name u class call.args.now (bindings t call.kw.now)) world.now world.now result }
     ensures safe { AllHold world.now (of_step nothing_held result) }

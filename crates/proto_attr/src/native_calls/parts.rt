@@ -11,10 +11,7 @@ use class_world::World;
 use py_node::{FuncArgs, OutOfMemory, Step};
 
 /// What a member gives of an object.
-pub(crate) fn member_get_by_name(
-    world: &World,
-    call: FuncArgs<'_>,
-) -> Result<Step<()>, OutOfMemory>
+pub(crate) fn member_get_by_name(world: &World, call: FuncArgs<'_>) -> Result<Step<()>, OutOfMemory>
     requires { Holds world.now (AreNodes call.args.now) }
     ensures steps { IfOk result (λ step. StepsAs (λ t u. member_get_by_name u call.args.now (bindings t call.kw.now))
         world.now world.now step) }

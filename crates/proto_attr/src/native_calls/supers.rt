@@ -14,7 +14,10 @@ use crate::proto_descr::{bind_super, unbound_super};
 use class_world::World;
 use class_world::args::copy_args;
 use class_world::takes::one;
-use py_node::{Answer, Cause, DescriptorTask, FuncArgs, NativeEntry, OutOfMemory, PyObjectRef, PyTypeRef, Raised, Step, Task};
+use py_node::{
+    Answer, Cause, DescriptorTask, FuncArgs, NativeEntry, OutOfMemory, PyObjectRef, PyTypeRef,
+    Raised, Step, Task,
+};
 
 /// A `super` that is bound to nothing is told where to start for an object.
 pub(crate) fn super_get_by_name(
@@ -87,10 +90,7 @@ pub(crate) fn super_attribute_by_name(
 }
 
 /// A `super` is initialised with any arguments, but no keywords.
-pub(crate) fn super_init_by_name(
-    world: &World,
-    call: FuncArgs<'_>,
-) -> Result<Step<()>, OutOfMemory>
+pub(crate) fn super_init_by_name(world: &World, call: FuncArgs<'_>) -> Result<Step<()>, OutOfMemory>
     requires { Holds world.now (AreNodes call.args.now) }
     ensures steps { IfOk result (λ step. StepsAs (λ t u. super_init_by_name u call.args.now (bindings t call.kw.now))
         world.now world.now step) }

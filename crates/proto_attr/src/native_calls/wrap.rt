@@ -10,7 +10,10 @@ use crate::native_calls::NativeKept;
 use crate::native_calls::way::Wrapper;
 use class_world::World;
 use class_world::takes::two;
-use py_node::{Answer, AttributeTask, BuiltIn, Cause, FuncArgs, Known, NativeEntry, OutOfMemory, Payload, PyObjectRef, PySetterValue, PyTypeRef, Raised, Step, Task};
+use py_node::{
+    Answer, AttributeTask, BuiltIn, Cause, FuncArgs, Known, NativeEntry, OutOfMemory, Payload,
+    PyObjectRef, PySetterValue, PyTypeRef, Raised, Step, Task,
+};
 
 // The built-in class of these.
 fn class_of_wrapper(wrapper: Wrapper) -> BuiltIn

@@ -8,7 +8,9 @@ ghost use Rattle.proto_attr.specs.NativeCalls.Parts.{asked_name, part_of_wrapped
 use crate::native_calls::way::Wrapper;
 use class_world::World;
 use class_world::takes::one;
-use py_node::{AttributeTask, Cause, Detail, FuncArgs, Known, Payload, PyObjectRef, Raised, Step, Task};
+use py_node::{
+    AttributeTask, Cause, Detail, FuncArgs, Known, Payload, PyObjectRef, Raised, Step, Task,
+};
 
 /// What a class method or a static method wraps is asked for a part.
 pub(crate) fn part_of_wrapped(

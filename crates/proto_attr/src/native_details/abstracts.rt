@@ -13,14 +13,13 @@ ghost use Rattle.proto_attr.specs.NativeDetails.Say.{listed, or_false, property_
 use crate::native_details::DetailKept;
 use class_world::World;
 use class_world::takes::one;
-use py_node::{Answer, AttributeTask, Cause, Detail, FuncArgs, Known, OperatorTask, Payload, PyNumberBinaryOp, PyObjectRef, PyProperty, Raised, Step, Task};
+use py_node::{
+    Answer, AttributeTask, Cause, Detail, FuncArgs, Known, OperatorTask, Payload, PyNumberBinaryOp,
+    PyObjectRef, PyProperty, Raised, Step, Task,
+};
 
 /// The getter is asked first, if there is one.
-pub(crate) fn begin_abstract(
-    world: &World,
-    detail: Detail,
-    call: FuncArgs<'_>,
-) -> Step<DetailKept>
+pub(crate) fn begin_abstract(world: &World, detail: Detail, call: FuncArgs<'_>) -> Step<DetailKept>
     requires { Holds world.now (AreNodes call.args.now) }
     ensures goes { Does (entry.GetterOf built_in.Property detail) call.args.now (λ t. bindings t call.kw.now)
         (λ t u. property_abstract u call.args.now (bindings t call.kw.now) []) world.now world.now result }

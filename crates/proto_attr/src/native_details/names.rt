@@ -12,7 +12,10 @@ use crate::native_details::DetailKept;
 use class_world::limits::is_within_limit;
 use class_world::takes::one;
 use class_world::{Fixed, World};
-use py_node::{Answer, AttributeTask, Cause, Detail, FuncArgs, Kind, Known, MemberDescriptor, OutOfMemory, Payload, PyObjectRef, PyStrInterned, Raised, Step, Stop, Task, caught};
+use py_node::{
+    Answer, AttributeTask, Cause, Detail, FuncArgs, Kind, Known, MemberDescriptor, OutOfMemory,
+    Payload, PyObjectRef, PyStrInterned, Raised, Step, Stop, Task, caught,
+};
 use row_kit::class_names::limited_text;
 use row_kit::give::new_text;
 
@@ -76,11 +79,7 @@ pub(crate) fn name_given(
 }
 
 // The name is kept, and told as a new text.
-fn named_by(
-    world: &mut World,
-    object: PyObjectRef,
-    qualname: PyObjectRef,
-) -> Result<Answer, Stop>
+fn named_by(world: &mut World, object: PyObjectRef, qualname: PyObjectRef) -> Result<Answer, Stop>
     requires object { Holds world.old (IsNode object) }
     requires qualname { Holds world.old (IsNode qualname) }
     ensures ends { Ended result (EndsAs (λ t u. named_by u object (datum_at u object) qualname)
@@ -92,22 +91,18 @@ fn named_by(
         _ => return Ok(Answer::Value(world.fixed(Fixed::None))),
     };
     let text = dotted(world, qualname, member.name)?;
-        let name = world.intern(text.as_str())?;
-        let named = MemberDescriptor {
-            qualname: Some(name),
-            ..member
-        };
-        let boxed = Box::new(world.alloc(), named)?;
-        world.set_payload(object, Payload::Member(boxed));
-        new_text(world, text)
+    let name = world.intern(text.as_str())?;
+    let named = MemberDescriptor {
+        qualname: Some(name),
+        ..member
+    };
+    let boxed = Box::new(world.alloc(), named)?;
+    world.set_payload(object, Payload::Member(boxed));
+    new_text(world, text)
 }
 
 // The text that an object is, and a name in it. It must be a text, and not too long.
-fn dotted(
-    world: &World,
-    qualname: PyObjectRef,
-    name: PyStrInterned,
-) -> Result<String, Stop>
+fn dotted(world: &World, qualname: PyObjectRef, name: PyStrInterned) -> Result<String, Stop>
     requires qualname { Holds world.now (IsNode qualname) }
     requires name { Holds world.now (IsName name) }
     ensures text { IfOk result (λ s. (t : Reading) → Reads t world.now →

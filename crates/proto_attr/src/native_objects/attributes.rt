@@ -6,15 +6,15 @@ ghost use Rattle.std.specs.Prelude.{◌≡◌};
 ghost use Rattle.proto_attr.specs.NativeObjects.Attributes.{annotations, class_dict};
 
 use class_world::World;
-use py_node::{Answer, BuiltIn, Cause, Known, OutOfMemory, Payload, PyDict, PyObjectRef, PyStrInterned, PyTypeRef, Stop};
+use py_node::{
+    Answer, BuiltIn, Cause, Known, OutOfMemory, Payload, PyDict, PyObjectRef, PyStrInterned,
+    PyTypeRef, Stop,
+};
 use row_kit::class_attributes::key_all;
 use row_kit::give::new_sized;
 
 /// The own attributes of a class, as a new dict.
-pub(crate) fn class_dict(
-    world: &mut World,
-    class: PyTypeRef,
-) -> Result<Answer, Stop>
+pub(crate) fn class_dict(world: &mut World, class: PyTypeRef) -> Result<Answer, Stop>
     requires { Holds world.old (IsClass class.0) }
     ensures ends { Ended result (EndsAs (λ t u. class_dict u class.0) world.old world.new) }
     ensures safe { LeavesEnd world.old world.new result }
@@ -26,10 +26,7 @@ pub(crate) fn class_dict(
 }
 
 /// The annotations of a class that a script made: its own, or else a new dict, which becomes an own attribute.
-pub(crate) fn annotations(
-    world: &mut World,
-    class: PyTypeRef,
-) -> Result<Answer, Stop>
+pub(crate) fn annotations(world: &mut World, class: PyTypeRef) -> Result<Answer, Stop>
     requires { Holds world.old (IsClass class.0) }
     ensures ends { Ended result (EndsAs (λ t u. annotations u class.0) world.old world.new) }
     ensures safe { LeavesEnd world.old world.new result }

@@ -60,11 +60,7 @@ pub(crate) fn set_name(
 }
 
 // A class that a script made gets another name, which has no null character.
-fn renamed(
-    world: &mut World,
-    class: PyTypeRef,
-    name: &str,
-) -> Result<Answer, Stop>
+fn renamed(world: &mut World, class: PyTypeRef, name: &str) -> Result<Answer, Stop>
     requires class { Holds world.old (IsClass class.0) }
     requires heap { is_heap_at (class_numbered world.old.classes class.0) ≡ true }
     ensures ends { Ended result (EndsAs (λ t u. renamed u class.0 name.now) world.old world.new) }
@@ -90,11 +86,11 @@ pub(crate) fn set_qualname(
     ensures safe { LeavesEnd world.old world.new result }
 {
     let value = heap_value(world, class, given)?;
-        if is_text(world, value) {
-            set_own(world, class, Known::Qualname, value)
-        } else {
-            Err(Stop::raise(Cause::NameType))
-        }
+    if is_text(world, value) {
+        set_own(world, class, Known::Qualname, value)
+    } else {
+        Err(Stop::raise(Cause::NameType))
+    }
 }
 
 // Whether an object is a text.
@@ -165,11 +161,7 @@ fn set_own(
 }
 
 // An own attribute of a class that a script made is taken out, where it is there.
-fn take_own(
-    world: &mut World,
-    class: PyTypeRef,
-    name: Known,
-) -> Result<Answer, Stop>
+fn take_own(world: &mut World, class: PyTypeRef, name: Known) -> Result<Answer, Stop>
     requires { Holds world.old (IsClass class.0) }
     ensures ends { Ended result (EndsAs (λ t u. on_heap u class.0 (take_own u class.0 (known_text name)))
         world.old world.new) }

@@ -8,7 +8,10 @@ ghost use Rattle.proto_attr.specs.NativeObjects.Descriptors.{callable_say, descr
 use crate::native_objects::take::{own_member, own_method, own_static, own_super};
 use class_world::takes::{one, two};
 use class_world::{Fixed, World};
-use py_node::{Answer, CallableNative, Cause, DescriptorNative, FuncArgs, OutOfMemory, Payload, PyStrInterned, PySuper, PyTypeRef, Raised, Stop, SuperNative, WrapperNative};
+use py_node::{
+    Answer, CallableNative, Cause, DescriptorNative, FuncArgs, OutOfMemory, Payload, PyStrInterned,
+    PySuper, PyTypeRef, Raised, Stop, SuperNative, WrapperNative,
+};
 use row_kit::class_names::limited_text;
 use std::alloc::Global;
 
@@ -81,10 +84,7 @@ pub fn wrapper_native(
 }
 
 // The text of a native as a method: its name and its class.
-fn method_repr(
-    world: &mut World,
-    call: FuncArgs<'_>,
-) -> Result<Answer, Stop>
+fn method_repr(world: &mut World, call: FuncArgs<'_>) -> Result<Answer, Stop>
     requires { Holds world.old (AreNodes call.args.now) }
     ensures ends { Ended result (EndsAs (λ t u. method_repr u call.args.now (bindings t call.kw.now)) world.old world.new) }
     ensures safe { LeavesEnd world.old world.new result }
@@ -96,10 +96,7 @@ fn method_repr(
 }
 
 // The text of a member: its name and its class.
-fn member_repr(
-    world: &mut World,
-    call: FuncArgs<'_>,
-) -> Result<Answer, Stop>
+fn member_repr(world: &mut World, call: FuncArgs<'_>) -> Result<Answer, Stop>
     requires { Holds world.old (AreNodes call.args.now) }
     ensures ends { Ended result (EndsAs (λ t u. member_repr u call.args.now (bindings t call.kw.now)) world.old world.new) }
     ensures safe { LeavesEnd world.old world.new result }
@@ -137,10 +134,7 @@ fn member_text(world: &World, class: PyTypeRef, name: PyStrInterned) -> Result<S
 }
 
 // The text of a `super`: the class past which it looks, and the class where it starts.
-fn super_repr(
-    world: &mut World,
-    call: FuncArgs<'_>,
-) -> Result<Answer, Stop>
+fn super_repr(world: &mut World, call: FuncArgs<'_>) -> Result<Answer, Stop>
     requires { Holds world.old (AreNodes call.args.now) }
     ensures ends { Ended result (EndsAs (λ t u. super_repr u call.args.now (bindings t call.kw.now)) world.old world.new) }
     ensures safe { LeavesEnd world.old world.new result }
@@ -177,10 +171,7 @@ fn bound_text(alloc: Global, past: &str, start: Option<&str>) -> Result<String, 
 }
 
 // A static method wraps the callable that it is given.
-fn static_init(
-    world: &mut World,
-    call: FuncArgs<'_>,
-) -> Result<Answer, Raised>
+fn static_init(world: &mut World, call: FuncArgs<'_>) -> Result<Answer, Raised>
     requires { Holds world.old (AreNodes call.args.now) }
     ensures ends { EndsAs (λ t u. static_init u call.args.now (bindings t call.kw.now)) world.old world.new result }
     ensures grows { Grows world.old world.new }

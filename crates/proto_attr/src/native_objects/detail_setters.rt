@@ -27,11 +27,7 @@ pub fn setter_of_native(
 }
 
 // What is set of a property.
-fn set_of_property(
-    world: &mut World,
-    detail: Detail,
-    call: FuncArgs<'_>,
-) -> Result<Answer, Raised>
+fn set_of_property(world: &mut World, detail: Detail, call: FuncArgs<'_>) -> Result<Answer, Raised>
     requires { Holds world.old (AreNodes call.args.now) }
     ensures ends { EndsAs (λ t u. set_of_property u detail call.args.now (bindings t call.kw.now)) world.old world.new result }
     ensures grows { Grows world.old world.new }
@@ -44,10 +40,7 @@ fn set_of_property(
 }
 
 // A property gets another text for readers, which may be any object.
-fn set_doc(
-    world: &mut World,
-    call: FuncArgs<'_>,
-) -> Result<Answer, Raised>
+fn set_doc(world: &mut World, call: FuncArgs<'_>) -> Result<Answer, Raised>
     requires { Holds world.old (AreNodes call.args.now) }
     ensures ends { EndsAs (λ t u. set_of_property u Detail.Doc call.args.now (bindings t call.kw.now))
         world.old world.new result }

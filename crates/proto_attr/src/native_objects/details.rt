@@ -8,7 +8,10 @@ ghost use Rattle.proto_attr.specs.NativeObjects.DetailParts.{of_part, read_part}
 
 use class_world::takes::one;
 use class_world::{Fixed, World};
-use py_node::{Answer, BuiltIn, Cause, Detail, FuncArgs, OutOfMemory, Payload, PyObjectRef, PyProperty, PySlice, PyStrInterned, PySuper, PyTypeRef, Raised, Stop};
+use py_node::{
+    Answer, BuiltIn, Cause, Detail, FuncArgs, OutOfMemory, Payload, PyObjectRef, PyProperty,
+    PySlice, PyStrInterned, PySuper, PyTypeRef, Raised, Stop,
+};
 use row_kit::class_names::limited_text;
 use row_kit::signatures::get_text_signature_from_internal_doc;
 

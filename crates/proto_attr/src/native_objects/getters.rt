@@ -9,7 +9,10 @@ ghost use Rattle.proto_attr.specs.NativeObjects.Getters.{class_read, dict_or_fau
 use crate::native_objects::attributes::{annotations, class_dict};
 use class_world::takes::one;
 use class_world::{Fixed, World};
-use py_node::{Answer, BuiltIn, Cause, FuncArgs, Known, Payload, Property, PyObjectRef, PyTypeRef, Raised, Stop};
+use py_node::{
+    Answer, BuiltIn, Cause, FuncArgs, Known, Payload, Property, PyObjectRef, PyTypeRef, Raised,
+    Stop,
+};
 use row_kit::class_names::{given, limited_text};
 use row_kit::class_nodes::class_nodes;
 use row_kit::give::{new_int, new_sized};
@@ -37,10 +40,7 @@ pub fn getter_native(
 }
 
 // The class of an object.
-fn class_of_any(
-    world: &World,
-    call: FuncArgs<'_>,
-) -> Result<Answer, Raised>
+fn class_of_any(world: &World, call: FuncArgs<'_>) -> Result<Answer, Raised>
     requires { Holds world.now (AreNodes call.args.now) }
     ensures ends { EndsAs (λ t u. getter_say u Property.Class call.args.now (bindings t call.kw.now)) world.now world.now result }
     ensures holds { AllHold world.now (of_ended result) }
@@ -50,10 +50,7 @@ fn class_of_any(
 }
 
 // The dict of an object, which for a class is that of its attributes.
-fn dict_of_any(
-    world: &mut World,
-    call: FuncArgs<'_>,
-) -> Result<Answer, Stop>
+fn dict_of_any(world: &mut World, call: FuncArgs<'_>) -> Result<Answer, Stop>
     requires { Holds world.old (AreNodes call.args.now) }
     ensures ends { Ended result (EndsAs (λ t u. getter_say u Property.InstanceDict call.args.now (bindings t call.kw.now))
         world.old world.new) }
@@ -78,11 +75,7 @@ fn dict_or_fault(dict: Option<PyObjectRef>) -> Result<Answer, Raised>
 }
 
 // What is read of a class.
-fn class_read(
-    world: &mut World,
-    property: Property,
-    class: PyTypeRef,
-) -> Result<Answer, Stop>
+fn class_read(world: &mut World, property: Property, class: PyTypeRef) -> Result<Answer, Stop>
     requires { Holds world.old (IsClass class.0) }
     ensures ends { Ended result (EndsAs (λ t u. class_read u property class.0) world.old world.new) }
     ensures safe { LeavesEnd world.old world.new result }

@@ -47,9 +47,9 @@ fn new_list(world: &mut World, args: &[PyObjectRef]) -> Result<Answer, Stop>
     ensures safe { LeavesEnd world.old world.new result }
 {
     let class = heir(world, BuiltIn::List, args)?;
-        let items = Vec::new(world.alloc());
-        let node = world.make_node(class, Payload::List(items))?;
-        Ok(Answer::Value(node))
+    let items = Vec::new(world.alloc());
+    let node = world.make_node(class, Payload::List(items))?;
+    Ok(Answer::Value(node))
 }
 
 // A new dict, which is empty.
@@ -59,31 +59,28 @@ fn new_dict(world: &mut World, args: &[PyObjectRef]) -> Result<Answer, Stop>
     ensures safe { LeavesEnd world.old world.new result }
 {
     let class = heir(world, BuiltIn::Dict, args)?;
-        let dict = PyDict::new(world.alloc());
-        let node = world.make_node(class, Payload::Dict(dict))?;
-        Ok(Answer::Value(node))
+    let dict = PyDict::new(world.alloc());
+    let node = world.make_node(class, Payload::Dict(dict))?;
+    Ok(Answer::Value(node))
 }
 
 // A new property, which has no parts.
-fn new_property(
-    world: &mut World,
-    args: &[PyObjectRef],
-) -> Result<Answer, Stop>
+fn new_property(world: &mut World, args: &[PyObjectRef]) -> Result<Answer, Stop>
     requires { Holds world.old (AreNodes args.now) }
     ensures ends { Ended result (EndsAs (λ t u. maker_say u BuiltIn.Property args.now) world.old world.new) }
     ensures safe { LeavesEnd world.old world.new result }
 {
     let class = heir(world, BuiltIn::Property, args)?;
-        let parts = PyProperty {
-            fget: None,
-            fset: None,
-            fdel: None,
-            doc: None,
-            name: None,
-        };
-        let boxed = Box::new(world.alloc(), parts)?;
-        let node = world.make_node(class, Payload::Property(boxed))?;
-        Ok(Answer::Value(node))
+    let parts = PyProperty {
+        fget: None,
+        fset: None,
+        fdel: None,
+        doc: None,
+        name: None,
+    };
+    let boxed = Box::new(world.alloc(), parts)?;
+    let node = world.make_node(class, Payload::Property(boxed))?;
+    Ok(Answer::Value(node))
 }
 
 // A new `super`, which looks past `object` and is bound to nothing.
@@ -93,7 +90,7 @@ fn new_super(world: &mut World, args: &[PyObjectRef]) -> Result<Answer, Stop>
     ensures safe { LeavesEnd world.old world.new result }
 {
     let class = heir(world, BuiltIn::Super, args)?;
-        let typ = world.built_in(BuiltIn::Object);
-        let node = world.make_node(class, Payload::Super(PySuper { typ, obj: None }))?;
-        Ok(Answer::Value(node))
+    let typ = world.built_in(BuiltIn::Object);
+    let node = world.make_node(class, Payload::Super(PySuper { typ, obj: None }))?;
+    Ok(Answer::Value(node))
 }

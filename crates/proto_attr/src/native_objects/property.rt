@@ -9,7 +9,10 @@ ghost use Rattle.proto_attr.specs.NativeObjects.Descriptors.{bare, may_name, or_
 use crate::native_objects::take::own_property;
 use class_world::takes::{three, two};
 use class_world::{Fixed, World};
-use py_node::{Answer, Cause, FuncArgs, Payload, PropertyNative, PyObjectRef, PyProperty, PyStrInterned, PyTypeRef, Raised, Stop};
+use py_node::{
+    Answer, Cause, FuncArgs, Payload, PropertyNative, PyObjectRef, PyProperty, PyStrInterned,
+    PyTypeRef, Raised, Stop,
+};
 
 /// A native of `property`.
 pub fn property_native(
@@ -34,10 +37,7 @@ pub fn property_native(
 }
 
 // A property gets its parts, by their places and by keywords.
-fn property_init(
-    world: &mut World,
-    call: FuncArgs<'_>,
-) -> Result<Answer, Raised>
+fn property_init(world: &mut World, call: FuncArgs<'_>) -> Result<Answer, Raised>
     requires args { Holds world.old (AreNodes call.args.now) }
     requires kw { AllHold world.old (of_each of_binding call.kw.now) }
     ensures ends { EndsAs (λ t u. property_init u call.args.now (bindings t call.kw.now)) world.old world.new result }
@@ -193,10 +193,7 @@ fn may_name(world: &World, name: Option<PyObjectRef>) -> bool
 }
 
 // A property is told the name that it gets in a class.
-fn property_set_name(
-    world: &mut World,
-    call: FuncArgs<'_>,
-) -> Result<Answer, Raised>
+fn property_set_name(world: &mut World, call: FuncArgs<'_>) -> Result<Answer, Raised>
     requires { Holds world.old (AreNodes call.args.now) }
     ensures ends { EndsAs (λ t u. property_set_name u call.args.now (bindings t call.kw.now)) world.old world.new result }
     ensures grows { Grows world.old world.new }
@@ -225,11 +222,11 @@ fn property_part(
 {
     let (object, parts) = own_property(world, call.args)?;
     let (_, part) = two(call)?;
-        let parts = with_other(native, bare(parts), part);
-        let class = class_of_property(world, object);
-        let boxed = Box::new(world.alloc(), parts)?;
-        let node = world.make_node(class, Payload::Property(boxed))?;
-        Ok(Answer::Value(node))
+    let parts = with_other(native, bare(parts), part);
+    let class = class_of_property(world, object);
+    let boxed = Box::new(world.alloc(), parts)?;
+    let node = world.make_node(class, Payload::Property(boxed))?;
+    Ok(Answer::Value(node))
 }
 
 // The class of a property, whose objects are properties.

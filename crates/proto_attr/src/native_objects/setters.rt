@@ -33,10 +33,7 @@ pub fn setter_native(
 }
 
 // The class of an object.
-fn class_of_any(
-    world: &mut World,
-    call: FuncArgs<'_>,
-) -> Result<Answer, Raised>
+fn class_of_any(world: &mut World, call: FuncArgs<'_>) -> Result<Answer, Raised>
     requires { Holds world.old (AreNodes call.args.now) }
     ensures ends { EndsAs (λ t u. setter_say u Property.Class call.args.now (bindings t call.kw.now)) world.old world.new result }
     ensures grows { Grows world.old world.new }
@@ -49,10 +46,7 @@ fn class_of_any(
 }
 
 // The dict of an object, which for a class is that of its attributes.
-fn dict_of_any(
-    world: &mut World,
-    call: FuncArgs<'_>,
-) -> Result<Answer, Raised>
+fn dict_of_any(world: &mut World, call: FuncArgs<'_>) -> Result<Answer, Raised>
     requires { Holds world.old (AreNodes call.args.now) }
     ensures ends { EndsAs (λ t u. setter_say u Property.InstanceDict call.args.now (bindings t call.kw.now))
         world.old world.new result }

@@ -7,13 +7,13 @@ ghost use Rattle.proto_attr.specs.NativeObjects.Takes.{with_class_and_given, wit
 
 use class_world::World;
 use class_world::takes::{one, two};
-use py_node::{Cause, FuncArgs, Payload, PyObjectRef, PyProperty, PyStrInterned, PySuper, PyTypeRef, Raised};
+use py_node::{
+    Cause, FuncArgs, Payload, PyObjectRef, PyProperty, PyStrInterned, PySuper, PyTypeRef, Raised,
+};
 use row_kit::take_classes::own_class;
 
 /// The only argument, or the first one with a second, or why the arguments are refused.
-pub(crate) fn one_or_two(
-    call: FuncArgs<'_>,
-) -> Result<(PyObjectRef, Option<PyObjectRef>), Raised>
+pub(crate) fn one_or_two(call: FuncArgs<'_>) -> Result<(PyObjectRef, Option<PyObjectRef>), Raised>
     ensures given { IfOk result (λ p. (t : Reading) (w : PlainWorld) (go : Object → Option Object → Said) →
         with_one_or_two w call.args.now (bindings t call.kw.now) go ≡ go p.0 p.1) }
     ensures refused { IfErr result (λ x. (t : Reading) (w : PlainWorld) (go : Object → Option Object → Said) →

@@ -6,7 +6,10 @@ ghost use Rattle.proto_call.specs.ClassMake.Say.{has_name, is_class, put, give, 
 ghost use Rattle.proto_call.specs.ClassMake.Rows.{Becomes};
 
 use class_world::{Fixed, World};
-use py_node::{BuiltIn, GetSet, Known, NativeEntry, OutOfMemory, Payload, Property, PyAttributes, PyObjectRef, PyStrInterned, PyTypeRef};
+use py_node::{
+    BuiltIn, GetSet, Known, NativeEntry, OutOfMemory, Payload, Property, PyAttributes, PyObjectRef,
+    PyStrInterned, PyTypeRef,
+};
 
 /// The attributes of a class of this name: class methods where its hooks are functions, a qualified name, and no hash
 /// where it compares its objects itself.

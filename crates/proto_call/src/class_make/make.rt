@@ -11,7 +11,9 @@ use crate::class_make::bases::by_bases;
 use crate::class_make::namespace::{Entries, dict_at, text_at, tuple_at};
 use class_world::World;
 use py_node::task::{Args, Keywords};
-use py_node::{Answer, BuiltIn, Cause, FuncArgs, Kind, OutOfMemory, PyObjectRef, PyTypeRef, Raised, Step};
+use py_node::{
+    Answer, BuiltIn, Cause, FuncArgs, Kind, OutOfMemory, PyObjectRef, PyTypeRef, Raised, Step,
+};
 use row_kit::questions::has_null;
 
 /// Three arguments.
@@ -42,7 +44,10 @@ pub(crate) fn make_class(
     ensures goes { IfOk result (λ step. Begins (class_task.MakeClass meta args kw) world.old world.new step) }
     ensures safe { Leaves of_class_kept world.old world.new result }
 {
-    let one = one_of(FuncArgs { args: &args, kw: &kw });
+    let one = one_of(FuncArgs {
+        args: &args,
+        kw: &kw,
+    });
     let call = Call { args, kw };
     by_one(world, meta, one, call)
 }

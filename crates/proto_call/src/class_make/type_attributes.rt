@@ -10,7 +10,10 @@ use crate::class_make::ClassKept;
 use class_world::takes::{three, two};
 use class_world::{Fixed, World};
 use py_node::task::{Args, Keywords};
-use py_node::{Answer, AttributeTask, Cause, FuncArgs, OutOfMemory, PyObjectRef, PySetterValue, PyTypeRef, Raised, Step, Task};
+use py_node::{
+    Answer, AttributeTask, Cause, FuncArgs, OutOfMemory, PyObjectRef, PySetterValue, PyTypeRef,
+    Raised, Step, Task,
+};
 
 /// A class's attribute by its name, as classes read it.
 pub(crate) fn type_get_attribute(
@@ -27,7 +30,10 @@ pub(crate) fn type_get_attribute(
         Err(raised) => return Ok(Step::End(Err(raised))),
         Ok(class) => class,
     };
-    match two(FuncArgs { args: &args, kw: &kw }) {
+    match two(FuncArgs {
+        args: &args,
+        kw: &kw,
+    }) {
         Err(raised) => Ok(Step::End(Err(raised))),
         Ok((_, name)) => match world.name_in(name)? {
             Err(raised) => Ok(Step::End(Err(raised))),
@@ -51,7 +57,10 @@ pub(crate) fn type_set_attr(
         Err(raised) => return Ok(Step::End(Err(raised))),
         Ok(class) => class,
     };
-    match three(FuncArgs { args: &args, kw: &kw }) {
+    match three(FuncArgs {
+        args: &args,
+        kw: &kw,
+    }) {
         Err(raised) => Ok(Step::End(Err(raised))),
         Ok((_, name, value)) => match world.name_in(name)? {
             Err(raised) => Ok(Step::End(Err(raised))),
@@ -78,7 +87,10 @@ pub(crate) fn type_del_attr(
         Err(raised) => return Ok(Step::End(Err(raised))),
         Ok(class) => class,
     };
-    match two(FuncArgs { args: &args, kw: &kw }) {
+    match two(FuncArgs {
+        args: &args,
+        kw: &kw,
+    }) {
         Err(raised) => Ok(Step::End(Err(raised))),
         Ok((_, name)) => match world.name_in(name)? {
             Err(raised) => Ok(Step::End(Err(raised))),

@@ -8,7 +8,10 @@ ghost use Rattle.proto_call.specs.ClassMake.TypeNatives.{type_dir, class_text, w
 
 use class_world::takes::two;
 use class_world::{Fixed, World};
-use py_node::{Answer, BuiltIn, Cause, FuncArgs, OutOfMemory, Payload, PyDict, PyObjectRef, PyTypeRef, Raised, Stop, TypeNative, caught};
+use py_node::{
+    Answer, BuiltIn, Cause, FuncArgs, OutOfMemory, Payload, PyDict, PyObjectRef, PyTypeRef, Raised,
+    Stop, TypeNative, caught,
+};
 use row_kit::class_attributes::key_all;
 use row_kit::class_names::{in_module, limited_text, module_of, qualname};
 use row_kit::class_nodes::class_nodes;
@@ -17,10 +20,7 @@ use row_kit::take_classes::{lone_class, own_class};
 use std::alloc::Global;
 
 /// The names of a class's attributes, its own and those that it inherits, as a new list.
-pub(crate) fn type_dir(
-    world: &mut World,
-    call: FuncArgs<'_>,
-) -> Result<Answer, Stop>
+pub(crate) fn type_dir(world: &mut World, call: FuncArgs<'_>) -> Result<Answer, Stop>
     requires { Holds world.old (AreNodes call.args.now) }
     ensures ends { Ended result (EndsAs (λ t u. type_dir u call.args.now (bindings t call.kw.now)) world.old world.new) }
     ensures safe { LeavesEnd world.old world.new result }
@@ -106,24 +106,18 @@ pub fn type_native(
 }
 
 // The text of a class.
-fn type_repr(
-    world: &mut World,
-    call: FuncArgs<'_>,
-) -> Result<Answer, Stop>
+fn type_repr(world: &mut World, call: FuncArgs<'_>) -> Result<Answer, Stop>
     requires { Holds world.old (AreNodes call.args.now) }
     ensures ends { Ended result (EndsAs (λ t u. type_repr u call.args.now (bindings t call.kw.now)) world.old world.new) }
     ensures safe { LeavesEnd world.old world.new result }
 {
     let class = lone_class(world, call)?;
-        let text = class_text(world, class)?;
-        limited_text(world, text)
+    let text = class_text(world, class)?;
+    limited_text(world, text)
 }
 
 // Whether the class of an object derives from a class.
-fn instance_check(
-    world: &World,
-    call: FuncArgs<'_>,
-) -> Result<Answer, Raised>
+fn instance_check(world: &World, call: FuncArgs<'_>) -> Result<Answer, Raised>
     requires { Holds world.now (AreNodes call.args.now) }
     ensures ends { EndsAs (λ t u. instance_check u call.args.now (bindings t call.kw.now)) world.now world.now result }
     ensures holds { AllHold world.now (of_ended result) }
@@ -133,10 +127,7 @@ fn instance_check(
 }
 
 // Whether a class derives from another one.
-fn subclass_check(
-    world: &World,
-    call: FuncArgs<'_>,
-) -> Result<Answer, Raised>
+fn subclass_check(world: &World, call: FuncArgs<'_>) -> Result<Answer, Raised>
     requires { Holds world.now (AreNodes call.args.now) }
     ensures ends { EndsAs (λ t u. subclass_check u call.args.now (bindings t call.kw.now)) world.now world.now result }
     ensures holds { AllHold world.now (of_ended result) }
@@ -149,39 +140,30 @@ fn subclass_check(
 }
 
 // The classes that have a class among their bases.
-fn type_subclasses(
-    world: &mut World,
-    call: FuncArgs<'_>,
-) -> Result<Answer, Stop>
+fn type_subclasses(world: &mut World, call: FuncArgs<'_>) -> Result<Answer, Stop>
     requires { Holds world.old (AreNodes call.args.now) }
     ensures ends { Ended result (EndsAs (λ t u. type_subclasses u call.args.now (bindings t call.kw.now))
         world.old world.new) }
     ensures safe { LeavesEnd world.old world.new result }
 {
     let class = lone_class(world, call)?;
-        let nodes = class_nodes(world, world.classes().subclasses(class))?;
-        new_sized(world, BuiltIn::List, Payload::List(nodes))
+    let nodes = class_nodes(world, world.classes().subclasses(class))?;
+    new_sized(world, BuiltIn::List, Payload::List(nodes))
 }
 
 // The linearisation of a class.
-fn type_mro(
-    world: &mut World,
-    call: FuncArgs<'_>,
-) -> Result<Answer, Stop>
+fn type_mro(world: &mut World, call: FuncArgs<'_>) -> Result<Answer, Stop>
     requires { Holds world.old (AreNodes call.args.now) }
     ensures ends { Ended result (EndsAs (λ t u. type_mro u call.args.now (bindings t call.kw.now)) world.old world.new) }
     ensures safe { LeavesEnd world.old world.new result }
 {
     let class = lone_class(world, call)?;
-        let nodes = class_nodes(world, world.classes().mro(class))?;
-        new_sized(world, BuiltIn::List, Payload::List(nodes))
+    let nodes = class_nodes(world, world.classes().mro(class))?;
+    new_sized(world, BuiltIn::List, Payload::List(nodes))
 }
 
 // A new namespace, for a name and bases that may be given.
-fn type_prepare(
-    world: &mut World,
-    args: &[PyObjectRef],
-) -> Result<Answer, Stop>
+fn type_prepare(world: &mut World, args: &[PyObjectRef]) -> Result<Answer, Stop>
     requires { Holds world.old (AreNodes args.now) }
     ensures ends { Ended result (EndsAs (λ t u. type_prepare u args.now) world.old world.new) }
     ensures safe { LeavesEnd world.old world.new result }

@@ -11,7 +11,10 @@ use crate::class_make::type_attributes::{type_del_attr, type_get_attribute, type
 use class_world::World;
 use class_world::args::copy_args;
 use py_node::task::{Args, Keywords};
-use py_node::{BuiltIn, CallTask, Cause, ClassTask, FuncArgs, OutOfMemory, PyTypeRef, Step, Task, TypeNative, caught};
+use py_node::{
+    BuiltIn, CallTask, Cause, ClassTask, FuncArgs, OutOfMemory, PyTypeRef, Step, Task, TypeNative,
+    caught,
+};
 
 /// A native of `type`.
 pub(crate) fn type_native(
@@ -31,7 +34,14 @@ pub(crate) fn type_native(
         TypeNative::DelAttr => type_del_attr(world, args, kw),
         TypeNative::Call => type_call(world, args, kw),
         native => {
-            let answer = caught(crate::class_make::type_natives::type_native(world, native, FuncArgs { args: &args, kw: &kw }))?;
+            let answer = caught(crate::class_make::type_natives::type_native(
+                world,
+                native,
+                FuncArgs {
+                    args: &args,
+                    kw: &kw,
+                },
+            ))?;
             Ok(Step::End(answer))
         }
     }

@@ -9,7 +9,9 @@ ghost use Rattle.proto_object.specs.ProtoItems.Rows.{Begins, Resumes, of_items_k
 
 use crate::proto_items::ItemsKept;
 use class_world::World;
-use py_node::{AttributeTask, BuiltIn, Known, OutOfMemory, PyMethod, PyObjectRef, Step, Task, caught};
+use py_node::{
+    AttributeTask, BuiltIn, Known, OutOfMemory, PyMethod, PyObjectRef, Step, Task, caught,
+};
 use row_kit::entries::{keys_of, values_of};
 use row_kit::give_containers::{new_list, new_pairs};
 use row_kit::proto_base::is_exactly;

@@ -14,7 +14,9 @@ use crate::proto_number::asked::{method, native_of, special};
 use crate::proto_number::texts::text_number;
 use class_world::World;
 use py_node::protocol::ProtocolTask;
-use py_node::{Answer, Cause, Known, OutOfMemory, PyObjectRef, SlotEntry, SlotId, Step, Task, caught};
+use py_node::{
+    Answer, Cause, Known, OutOfMemory, PyObjectRef, SlotEntry, SlotId, Step, Task, caught,
+};
 use row_kit::int_values::{as_int, is_int};
 
 /// An index: a number is one, of another class than `int` as a new one. Others have a special method for it.

@@ -10,10 +10,7 @@ use py_node::{Answer, Cause, Payload, PyObjectRef, Raised, Stop};
 use row_kit::give::new_int;
 
 /// The whole number that a text spells, as a new one. Other objects spell none.
-pub(crate) fn text_number(
-    world: &mut World,
-    o: PyObjectRef,
-) -> Result<Answer, Stop>
+pub(crate) fn text_number(world: &mut World, o: PyObjectRef) -> Result<Answer, Stop>
     requires { Holds world.old (IsNode o) }
     ensures ends { Ended result (EndsAs (λ t u. text_number u (datum_at u o)) world.old world.new) }
     ensures safe { LeavesEnd world.old world.new result }

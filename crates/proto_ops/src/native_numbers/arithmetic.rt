@@ -54,10 +54,7 @@ fn operands(
 }
 
 // The two numbers of a power. There may be a third operand, where the native is for None alone.
-fn powers(
-    world: &World,
-    call: FuncArgs<'_>,
-) -> Result<(i128, i128), Result<Answer, Raised>>
+fn powers(world: &World, call: FuncArgs<'_>) -> Result<(i128, i128), Result<Answer, Raised>>
     requires { Holds world.now (AreNodes call.args.now) }
     ensures given { IfOk result (λ p. (t : Reading) (go : ℤ → ℤ → Said) →
         with_powers (plain t world.now) call.args.now (bindings t call.kw.now) go ≡ go p.0 p.1) }

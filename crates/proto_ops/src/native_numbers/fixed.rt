@@ -31,10 +31,7 @@ pub fn fixed_native(
 }
 
 // Why the arguments are refused: just the native's own object is wanted.
-fn refusal(
-    native: FixedNative,
-    call: FuncArgs<'_>,
-) -> Option<Raised>
+fn refusal(native: FixedNative, call: FuncArgs<'_>) -> Option<Raised>
     ensures taken { IfNone result ((t : Reading) (w : PlainWorld) (go : Said) →
         with_fixed w (fixed_of native) call.args.now (bindings t call.kw.now) go ≡ go) }
     ensures refused { IfSome result (λ x. (t : Reading) (w : PlainWorld) (go : Said) →

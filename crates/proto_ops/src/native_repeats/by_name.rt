@@ -21,11 +21,7 @@ use py_node::{Answer, Cause, OutOfMemory, Payload, PyObjectRef, Step, Stop, caug
 /// # Errors
 ///
 /// `ArgCount` where there is no argument, and `SelfType` where the first is of another kind.
-pub(crate) fn standing(
-    world: &World,
-    kind: Repeated,
-    args: &[PyObjectRef],
-) -> Result<Args, Stop>
+pub(crate) fn standing(world: &World, kind: Repeated, args: &[PyObjectRef]) -> Result<Args, Stop>
     requires { Holds world.now (AreNodes args.now) }
     ensures given { IfOk result (λ rs. (t : Reading) (kw : Bindings) →
         repeat_by_name (plain t world.now) (entry_of kind) args.now kw ≡ with_two (plain t world.now) args.now kw
@@ -80,7 +76,13 @@ pub(crate) fn given(
     match count_in(world.number(index)) {
         Err(raised) => Ok(Step::End(Err(raised))),
         Ok(n) => {
-            let ended = caught(repeat_stood(world, entry_of(kept.kind), kept.object, &kept.items, n))?;
+            let ended = caught(repeat_stood(
+                world,
+                entry_of(kept.kind),
+                kept.object,
+                &kept.items,
+                n,
+            ))?;
             Ok(Step::End(ended))
         }
     }

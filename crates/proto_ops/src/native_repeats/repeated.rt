@@ -11,7 +11,10 @@ ghost use Rattle.proto_ops.specs.NativeRepeats.Say.{ended_with, repeat_stood};
 use crate::native_repeats::count::times_within;
 use class_world::World;
 use py_node::task::Args;
-use py_node::{Answer, Cause, ListNative, NativeEntry, OutOfMemory, Payload, PyObjectRef, Raised, Stop, StrNative};
+use py_node::{
+    Answer, Cause, ListNative, NativeEntry, OutOfMemory, Payload, PyObjectRef, Raised, Stop,
+    StrNative,
+};
 use row_kit::give::new_text;
 use row_kit::give_containers::{new_list, new_tuple};
 use std::alloc::Global;
@@ -111,11 +114,7 @@ fn repeat_bytes(alloc: Global, text: &str, n: i64) -> Result<String, Stop>
 }
 
 // Items so many times, unless these are too many.
-fn repeat_items(
-    alloc: Global,
-    items: &[PyObjectRef],
-    n: i64,
-) -> Result<Args, Stop>
+fn repeat_items(alloc: Global, items: &[PyObjectRef], n: i64) -> Result<Args, Stop>
     ensures given { IfOk result (λ rs. (w : PlainWorld) (go : List Object → Said) →
         with_times w n items.now go ≡ go rs.items) }
     ensures refused { IfRaised result (λ x. (w : PlainWorld) (go : List Object → Said) →
