@@ -14,10 +14,7 @@ use crate::texts::{object_dir, object_format, object_ne, object_str};
 use class_world::takes::{one, three, two};
 use class_world::{Fixed, World};
 use py_node::task::{Args, Keywords};
-use py_node::{
-    Answer, AttributeTask, BuiltIn, Cause, FuncArgs, Known, ObjectNative, OutOfMemory, Payload,
-    PyObjectRef, PySetterValue, Raised, Step, Task, caught,
-};
+use py_node::{Answer, AttributeTask, BuiltIn, Cause, FuncArgs, Known, ObjectNative, OutOfMemory, Payload, PyObjectRef, PySetterValue, Raised, Step, Task, caught};
 
 /// A native of `object`.
 pub(crate) fn begin_object(
@@ -151,7 +148,7 @@ fn object_get_attribute(
 {
     match two(call) {
         Err(raised) => Ok(Step::End(Err(raised))),
-        Ok((o, name)) => match world.name_in(name)? {
+        Ok((o, name)) => match caught(world.name_in(name))? {
             Err(raised) => Ok(Step::End(Err(raised))),
             Ok(name) => Ok(asked(AttributeTask::Generic(o, name))),
         },
@@ -167,7 +164,7 @@ fn object_set_attr(world: &mut World, call: FuncArgs<'_>) -> Result<Step<CallKep
 {
     match three(call) {
         Err(raised) => Ok(Step::End(Err(raised))),
-        Ok((o, name, value)) => match world.name_in(name)? {
+        Ok((o, name, value)) => match caught(world.name_in(name))? {
             Err(raised) => Ok(Step::End(Err(raised))),
             Ok(name) => {
                 let value = PySetterValue::Assign(value);
@@ -186,7 +183,7 @@ fn object_del_attr(world: &mut World, call: FuncArgs<'_>) -> Result<Step<CallKep
 {
     match two(call) {
         Err(raised) => Ok(Step::End(Err(raised))),
-        Ok((o, name)) => match world.name_in(name)? {
+        Ok((o, name)) => match caught(world.name_in(name))? {
             Err(raised) => Ok(Step::End(Err(raised))),
             Ok(name) => {
                 let task = AttributeTask::GenericSet(o, name, PySetterValue::Delete);

@@ -103,6 +103,6 @@ pub fn as_object(world: &mut World, answer: Result<Answer, Raised>) -> Result<An
     match answer {
         Ok(Answer::Number(z)) => new_int(world, Ok(z as i128)),
         Ok(Answer::Done) => Ok(Answer::Value(world.fixed(Fixed::None))),
-        other => Ok(other),
+        other => Ok(other?),
     }
 }

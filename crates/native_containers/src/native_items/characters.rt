@@ -100,7 +100,7 @@ pub(crate) fn character_given(
             None => Err(Stop::raise(Cause::IndexOut)),
             Some(text) => new_text(world, text),
         },
-        other => Ok(other),
+        other => Ok(other?),
     }
 }
 

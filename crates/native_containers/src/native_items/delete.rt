@@ -82,7 +82,7 @@ pub(crate) fn item_deleted(
 {
     match answer {
         Ok(Answer::Value(index)) => Ok(take_out(world, list, index, stood)?),
-        other => Ok(other),
+        other => Ok(other?),
     }
 }
 

@@ -70,7 +70,7 @@ pub(crate) fn list_extended(
             None => push_all(world, list, &others),
             Some(items) => put_all(world, list, items, &others),
         },
-        other => Ok(other),
+        other => Ok(other?),
     }
 }
 

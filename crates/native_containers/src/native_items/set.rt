@@ -85,7 +85,7 @@ pub(crate) fn item_set(
     match answer {
         Ok(Answer::Objects(values)) => put_values(world, list, key, stood, values),
         Ok(Answer::Value(index)) => Ok(put_value(world, list, index, stood, value)?),
-        other => Ok(other),
+        other => Ok(other?),
     }
 }
 

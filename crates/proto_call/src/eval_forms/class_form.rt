@@ -11,10 +11,7 @@ use crate::eval_forms::keywords::{list_of, unrepeated, without};
 use class_world::World;
 use class_world::args::{copy_args, filled};
 use class_world::limits::is_within_limit;
-use py_node::{
-    BuiltIn, CallTask, Cause, Known, OutOfMemory, Payload, PyAttributes, PyDict, PyObjectRef,
-    PyStrInterned, Step, Task, caught,
-};
+use py_node::{BuiltIn, CallTask, Cause, Known, OutOfMemory, Payload, PyAttributes, PyDict, PyObjectRef, PyStrInterned, Step, Task};
 
 // A class, with the values of its bases, of its keywords and of its entries.
 pub(crate) fn class_step(
@@ -98,9 +95,9 @@ fn call_metaclass(
     let meta = metaclass(world, keywords.get(key), first(bases));
     let given = list_of(alloc, keywords)?;
     let others = without(alloc, &given, key)?;
-    let name = caught(new_text(world, name))?;
-    let bases = caught(new_tuple(world, bases))?;
-    let dict = caught(new_dict(world, entries))?;
+    let name = new_text(world, name)?;
+    let bases = new_tuple(world, bases)?;
+    let dict = new_dict(world, entries)?;
     let args = vec![in alloc; name, bases, dict]?;
     let task = CallTask::Call(meta, args, others);
     Ok(Step::Ask(Task::Call(task), EvalKept::Pass))
@@ -209,7 +206,7 @@ fn key_all(
     let mut pairs = Vec::new(alloc);
     for i in 0..entries.len() {
         let (name, value) = entries.at(i);
-        let key = caught(new_text(world, name))?;
+        let key = new_text(world, name)?;
         pairs.push((key, value))?;
     }
     world.readable();

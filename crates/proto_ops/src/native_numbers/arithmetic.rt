@@ -27,7 +27,7 @@ pub fn arithmetic_native(
     ensures safe { LeavesEnd world.old world.new result }
 {
     match operands(world, native, call) {
-        Err(answer) => Ok(answer),
+        Err(answer) => Ok(answer?),
         Ok((x, y)) => arithmetic_by(world, native, x, y),
     }
 }

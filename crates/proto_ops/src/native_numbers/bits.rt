@@ -39,7 +39,7 @@ fn bits_of(
     match truth_by(native, truth_of(a), truth_of(b)) {
         Some(holds) => Ok(Answer::Value(world.truth(holds))),
         None => match numbers_of(world, a, b) {
-            Err(answer) => Ok(answer),
+            Err(answer) => Ok(answer?),
             Ok((x, y)) => new_int(world, bits_by(native, x, y)),
         },
     }

@@ -146,20 +146,19 @@ fn items_times(alloc: Global, items: &[PyObjectRef], times: usize) -> Result<Arg
     Ok(all)
 }
 
-// Ends with such items, or as they were refused.
+// Ends with such items.
 fn end_with(
     world: &mut World,
     entry: NativeEntry,
     object: PyObjectRef,
-    all: Result<Args, Raised>,
+    items: Args,
 ) -> Result<Answer, Stop>
     requires object { Holds world.old (IsNode object) }
     requires place { AllHold world.old (of_place entry object) }
-    requires items { IfOk all (λ rs. Holds world.old (AreNodes rs.items)) }
-    ensures ends { Ended result (EndsAs (λ t u. ended_with u entry object all) world.old world.new) }
+    requires items { Holds world.old (AreNodes items.items) }
+    ensures ends { Ended result (EndsAs (λ t u. ended_with u entry object (Ok items)) world.old world.new) }
     ensures safe { LeavesEnd world.old world.new result }
 {
-    let items = all?;
     match entry {
         NativeEntry::OfTuple(_) => new_tuple(world, items),
         NativeEntry::OfList(native) => end_with_list(world, native, object, items),
