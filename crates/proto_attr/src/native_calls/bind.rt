@@ -144,7 +144,10 @@ pub(crate) fn bound(world: &World, kind: Kind, call: FuncArgs<'_>) -> Result<Bou
             if !is_of_kind(world, kind, *m) {
                 return Err(Raised::new(Cause::SelfType));
             }
-            let (o, class) = object_and_class(FuncArgs { args: rest, kw: call.kw })?;
+            let (o, class) = object_and_class(FuncArgs {
+                args: rest,
+                kw: call.kw,
+            })?;
             Ok((*m, o, class))
         }
     }

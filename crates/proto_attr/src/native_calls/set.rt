@@ -29,7 +29,10 @@ pub(crate) fn set_by_name(
             if !is_of_kind(world, kind_of(setting), *m) {
                 return Ok(Step::raise(Cause::SelfType));
             }
-            match two(FuncArgs { args: rest, kw: call.kw }) {
+            match two(FuncArgs {
+                args: rest,
+                kw: call.kw,
+            }) {
                 Err(raised) => Ok(Step::End(Err(raised))),
                 Ok((o, value)) => set_as(world, setting, *m, o, PySetterValue::Assign(value)),
             }
@@ -54,7 +57,10 @@ pub(crate) fn delete_by_name(
             if !is_of_kind(world, kind_of(setting), *m) {
                 return Ok(Step::raise(Cause::SelfType));
             }
-            match one(FuncArgs { args: rest, kw: call.kw }) {
+            match one(FuncArgs {
+                args: rest,
+                kw: call.kw,
+            }) {
                 Err(raised) => Ok(Step::End(Err(raised))),
                 Ok(o) => set_as(world, setting, *m, o, PySetterValue::Delete),
             }

@@ -14,7 +14,10 @@ use crate::proto_descr::{bind_super, unbound_super};
 use class_world::World;
 use class_world::args::copy_args;
 use class_world::takes::one;
-use py_node::{Answer, Cause, DescriptorTask, FuncArgs, NativeEntry, OutOfMemory, PyObjectRef, PyTypeRef, Raised, Step, Task, caught};
+use py_node::{
+    Answer, Cause, DescriptorTask, FuncArgs, NativeEntry, OutOfMemory, PyObjectRef, PyTypeRef,
+    Raised, Step, Task, caught,
+};
 
 /// A `super` that is bound to nothing is told where to start for an object.
 pub(crate) fn super_get_by_name(
@@ -72,7 +75,10 @@ pub(crate) fn super_attribute_by_name(
             if !is_of_kind(world, Kind::Super, *s) {
                 return Ok(Step::raise(Cause::SelfType));
             }
-            match one(FuncArgs { args: rest, kw: call.kw }) {
+            match one(FuncArgs {
+                args: rest,
+                kw: call.kw,
+            }) {
                 Err(raised) => Ok(Step::End(Err(raised))),
                 Ok(name) => match caught(world.name_in(name))? {
                     Err(raised) => Ok(Step::End(Err(raised))),

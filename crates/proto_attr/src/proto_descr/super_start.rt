@@ -8,7 +8,6 @@ ghost use Rattle.proto_attr.specs.ProtoDescr.Supers.{check_class, super_bound, s
 ghost use Rattle.proto_attr.specs.ProtoDescr.Rows.{Begins, EndsAs, Resumes, Starts, of_descriptor_kept, of_parts, super_asked};
 
 use crate::proto_descr::DescriptorKept;
-use crate::proto_descr::descriptor::Ended;
 use class_world::{Fixed, World};
 use py_node::{
     Answer, AttributeTask, BuiltIn, Cause, DescriptorTask, Known, OutOfMemory, Payload,
