@@ -55,7 +55,7 @@ pub(crate) fn resume_super(
         world.old world.new step) }
     ensures safe { Leaves of_native_kept world.old world.new result }
 {
-    let ended = bind_super(world, class, object, answer)?;
+    let ended = caught(bind_super(world, class, object, answer))?;
     Ok(Step::End(ended))
 }
 
