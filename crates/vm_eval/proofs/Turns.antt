@@ -1,7 +1,8 @@
 -- One turn of the machine keeps the outcome, whatever the rows are.
-use Rattle.vm_eval.proofs.Below.{ℕ, zero, suc, List, [], length, map, refl, sym, ap, ◌∙◌, arith, zero-add, true, false, cond, nat_lt, length-append, map-append, length-map, DepthLimit, Raised as Fault, Answer, Task, Step, Ask, End, PlainWorld, PlainTask, Ended, Answered, Told, Said, Asks, Ends, fault, Over, NoUnits, Outcome, Out, carry, asked, step, reach, Pending, reach-is, reach-alike, World, Reading, Reads, plain, task_of, ended_of, Steps, Kept, say, stands, Begins, Resumes, finish, unwind, coming, state}
-use Rattle.std.proofs.Common.{◌≡◌, ◌+◌, ◌∷◌, ◌++◌}
+use Rattle.vm_eval.proofs.Below.{ℕ, zero, suc, List, [], length, map, Ok, refl, sym, ap, ◌∙◌, arith, zero-add, true, false, cond, nat_lt, lt-ltb, le-ltb, length-append, map-append, length-map, sum_by_push, DepthLimit, Raised as Fault, Answer, Task, Step, Ask, End, PlainWorld, PlainTask, Ended, Answered, Told, Said, Asks, Ends, fault, Over, NoUnits, Outcome, Out, carry, asked, step, reach, Pending, reach-is, reach-alike, World, Reading, Reads, plain, task_of, ended_of, Steps, of_task, LeavesOpen, each-pop, each-push, all-last, all-rest, lasts-on, Kept, say, stands, of_kept, bodies_in, Begins, Resumes, finish, unwind, coming, state, IsOnItsWay, Reaches}
+use Rattle.std.proofs.Common.{◌≡◌, ◌+◌, ◌<◌, ◌≤◌, ◌∷◌, ◌++◌}
 use Rattle.std.specs.Prelude.{Result}
+use Rattle.vm_eval.specs.declared.stack.End.TheVariants as code
 
 unwind-append : (depth : ℕ) (ps : List (Pending PlainTask)) (p : Pending PlainTask) (o : Outcome) → unwind depth (ps ++ p ∷ []) o ≡ unwind depth ps (finish p (depth + length ps) o)
 unwind-append depth [] p o = let e : depth ≡ depth + 0 = omega arith in ap (λ n. finish p n o) e
@@ -99,3 +100,53 @@ state-first t old new task left next h reads =
 pub no-frames : (stack : List Kept) → length stack ≡ 0 → stack ≡ []
 no-frames [] h = refl
 no-frames (kept ∷ stack) h = absurd (omega arith)
+
+-- the machine stays on its way
+module _ (task : Task) (first : World) (units : ℕ) where
+  -- where an answer goes to the frame on top
+  pub resumed : (w new : World) (rest : List Kept) (kept : Kept) (r : Result Answer Fault) (left : ℕ) (next : Step Kept) → IsOnItsWay task first units w (rest ++ kept ∷ []) left (End r) → Resumes kept r w new next → LeavesOpen of_kept bodies_in (bodies_in kept) w new (Ok next) → IsOnItsWay task first units new rest left next
+  resumed w new rest kept r left next way goes leaves = record {
+    outcome = λ t reads.
+        let o = way.outcome t (goes t reads).0 in
+        (o.0, state-resume t w new rest kept r left next goes reads ∙ o.1);
+    lasts = lasts-on first w new way.lasts leaves.0;
+    bodies = let b = way.bodies in let l = leaves.1.1 in let s = sum_by_push bodies_in rest kept in omega (arith, b, l, s);
+    frames = all-last w new leaves.0 _ (each-pop w of_kept rest kept way.frames).0;
+    claims = leaves.1.0;
+  }
+
+  -- where an asked task begins
+  pub began : (w new : World) (stack : List Kept) (asked : Task) (kept : Kept) (left : ℕ) (next : Step Kept) → length stack < 999 → IsOnItsWay task first units w stack (suc left) (Ask asked kept) → Begins asked w new next → LeavesOpen of_kept bodies_in 0 w new (Ok next) → IsOnItsWay task first units new (stack ++ kept ∷ []) left next
+  began w new stack asked kept left next below way goes leaves =
+      let low : nat_lt (length (stack ++ kept ∷ [])) 1000 ≡ true = lt-ltb _ _ (omega (arith, length-append stack (kept ∷ []), below)) in
+      record {
+        outcome = λ t reads.
+            let o = way.outcome t (goes t reads).0 in
+            (o.0, state-begin t w stack asked kept left new next low goes reads ∙ o.1);
+        lasts = lasts-on first w new way.lasts leaves.0;
+        bodies = let b = way.bodies in let l = leaves.1.1 in let s = sum_by_push bodies_in stack kept in omega (arith, b, l, s);
+        frames = all-last w new leaves.0 _ (each-push w of_kept stack kept way.frames (all-rest w (of_task asked) (of_kept kept) way.claims));
+        claims = leaves.1.0;
+      }
+
+  -- and where it stands too deep
+  pub limited : (w : World) (stack : List Kept) (asked : Task) (kept : Kept) (left : ℕ) → 999 ≤ length stack → IsOnItsWay task first units w stack (suc left) (Ask asked kept) → IsOnItsWay task first units w (stack ++ kept ∷ []) left (End (fault DepthLimit))
+  limited w stack asked kept left above way =
+      let high : nat_lt (length (stack ++ kept ∷ [])) 1000 ≡ false = le-ltb _ _ (omega (arith, length-append stack (kept ∷ []), above)) in
+      record {
+        outcome = λ t reads.
+            let o = way.outcome t reads in
+            (o.0, state-limit t w stack asked kept left high ∙ o.1);
+        lasts = way.lasts;
+        bodies = let b = way.bodies in let s = sum_by_push bodies_in stack kept in omega (arith, b, s);
+        frames = each-push w of_kept stack kept way.frames (all-rest w (of_task asked) (of_kept kept) way.claims);
+        claims = tt;
+      }
+
+  -- it has come to an end where no frame waits
+  pub over : (w : World) (r : Result Answer Fault) (left : ℕ) → IsOnItsWay task first units w [] left (End r) → Reaches task first units w (code.Over r)
+  over w r left way = λ t reads. let o = way.outcome t reads in (o.0, left, sym (state-end t w left r ∙ o.1))
+
+  -- or no unit is left
+  pub spent : (w : World) (stack : List Kept) (asked : Task) (kept : Kept) → IsOnItsWay task first units w stack 0 (Ask asked kept) → Reaches task first units w code.NoUnits
+  spent w stack asked kept way = λ t reads. let o = way.outcome t reads in (o.0, 0, sym (state-no_units t w stack asked kept ∙ o.1))
