@@ -21,6 +21,11 @@ coming t (End r) w left depth = Out w (Over (ended_of r)) left
 coming t (Ask task kept) w zero depth = Out w NoUnits zero
 coming t (Ask task kept) w (suc left) depth = finish (stands t kept) depth (asked (reach say) w (task_of t task) left (suc depth))
 
+-- the first step of a task that a row asked, at so great a depth: what is asked comes to the same
+abbrev pub BeginsAt : ℕ → Task → World → World → Step Kept → Type 0
+BeginsAt depth task old new step =
+    (t : Reading) → Reads t new → Reads t old × ((left : ℕ) → asked (reach say) (plain t old) (task_of t task) left depth ≡ coming t step (plain t new) left depth)
+
 -- the outcome that the machine is on its way to
 unfoldable pub state : Reading → World → List Kept → ℕ → Step Kept → Outcome
 state t w stack left step = unwind 0 (map (stands t) stack) (coming t step (plain t w) left (length stack))
@@ -55,11 +60,6 @@ pub record IsOnItsWay (task : Task) (first : World) (units : ℕ) (w : World) (s
   pub bodies : RunsAbove (length first.scopes) w stack step
   pub frames : AllHold w (of_each of_kept stack)
   pub claims : AllHold w (of_step of_kept step)
-
--- where a row asks with a unit left, the machine stays on its way to the same
-abbrev pub GoesOn : Task → Kept → World → List Kept → World → List Kept → Step Kept → Type 0
-GoesOn asked kept old stack new stack' next =
-    (task : Task) (first : World) (units left : ℕ) → IsOnItsWay task first units old stack (suc left) (Ask asked kept) → IsOnItsWay task first units new stack' left next
 
 -- as many bodies run as before
 abbrev pub AsDeep : Held → Held → Type 0

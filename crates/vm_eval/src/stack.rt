@@ -1,10 +1,10 @@
 //! The stack of frames: one turn at a time, until a task is answered or its units are used up.
 
-ghost use Rattle.vm_eval.specs.Below.{suc, [], length, IfOk, OnOk, vec_capacity, AllHold, Lasts, of_task, of_protocol_task, of_ended, of_step, left_open, LeavesOpen, of_eval_kept, of_attribute_kept, of_descriptor_kept, of_call_kept, bodies_of, of_class_kept, of_operator_kept, of_compare_kept, of_number_kept, of_iter_kept, of_items_kept, of_object_kept};
+ghost use Rattle.vm_eval.specs.Below.{[], IfOk, OnOk, vec_capacity, AllHold, Lasts, of_task, of_protocol_task, of_ended, of_step, left_open, LeavesOpen, of_eval_kept, of_attribute_kept, of_descriptor_kept, of_call_kept, bodies_of, of_class_kept, of_operator_kept, of_compare_kept, of_number_kept, of_iter_kept, of_items_kept, of_object_kept};
 ghost use Rattle.std.specs.Prelude.{◌≡◌, ◌≤◌, ◌∷◌, ◌++◌};
 ghost use Rattle.vm_eval.specs.OfNatives.Rows.{of_natives_kept};
 ghost use Rattle.vm_eval.specs.Say.{Begins, Resumes, step_among, of_kept, bodies_in};
-ghost use Rattle.vm_eval.specs.Stack.{Answers, Reaches, GoesOn, AsDeep, EndsDeep, of_end};
+ghost use Rattle.vm_eval.specs.Stack.{Answers, BeginsAt, Reaches, AsDeep, EndsDeep, of_end};
 
 use crate::look_ahead;
 use crate::natives::NativesKept;
@@ -95,6 +95,19 @@ fn begin(world: &mut World, task: Task) -> Result<Step<Kept>, OutOfMemory>
             let step = crate::natives::begin(world, entry, args, kw)?;
             Ok(of_native(step))
         }
+    }
+}
+
+// The first step of a task that a row asked, at so great a depth.
+fn begin_at(world: &mut World, depth: usize, task: Task) -> Result<Step<Kept>, OutOfMemory>
+    requires { AllHold world.old (of_task task) }
+    ensures goes { IfOk result (λ step. BeginsAt depth task world.old world.new step) }
+    ensures safe { LeavesOpen of_kept bodies_in 0 world.old world.new result }
+{
+    if depth < DEPTH {
+        begin(world, task)
+    } else {
+        Ok(Step::raise(Cause::DepthLimit))
     }
 }
 
@@ -336,38 +349,6 @@ fn push(stack: &mut Vec<Kept>, kept: Kept) -> Result<(), OutOfMemory>
     Ok(())
 }
 
-// The next step where a row asks, whose unit is spent: the asked task begins above the row's frame. Where it ends with its first
-// step, the row goes on at once, and no frame is made.
-fn ask(
-    world: &mut World,
-    stack: &mut Vec<Kept>,
-    asked: Task,
-    kept: Kept,
-) -> Result<Step<Kept>, OutOfMemory>
-    requires { AllHold world.old (of_step of_kept (Step.Ask asked kept)) }
-    ensures way { IfOk result (λ next. GoesOn asked kept world.old stack.old.items world.new stack.new.items next) }
-    ensures lasts { Lasts world.old world.new }
-    ensures grows { OnOk result (length stack.new.items ≤ suc (length stack.old.items)) }
-    ensures room { vec_capacity stack.old ≤ vec_capacity stack.new }
-{
-    if stack.len() < DEPTH - 1 {
-        let first = begin(world, asked)?;
-        match first {
-            Step::End(answer) => {
-                let next = resume(world, kept, answer)?;
-                Ok(next)
-            }
-            Step::Ask(task, above) => {
-                push(stack, kept)?;
-                Ok(Step::Ask(task, above))
-            }
-        }
-    } else {
-        push(stack, kept)?;
-        Ok(Step::raise(Cause::DepthLimit))
-    }
-}
-
 // How a task ends that may use so many units, on a stack that is empty. As many bodies run as before.
 pub(crate) fn drive(
     world: &mut World,
@@ -392,7 +373,8 @@ pub(crate) fn drive(
     }
 }
 
-// The turns of a task, on a stack that is empty: an answer goes to the frame on top, and what a row asks begins above its frame.
+// The turns of a task, on a stack that is empty: an answer goes to the frame on top, and what a row asks begins above it. Where
+// that ends with its first step, the row goes on at once, and needs no frame.
 fn take_turns(
     world: &mut World,
     stack: &mut Vec<Kept>,
@@ -420,7 +402,14 @@ fn take_turns(
                     return Ok(End::NoUnits);
                 }
                 left -= 1;
-                step = ask(world, stack, asked, kept)?;
+                let first = begin_at(world, stack.len() + 1, asked)?;
+                match first {
+                    Step::End(answer) => step = resume(world, kept, answer)?,
+                    Step::Ask(next, above) => {
+                        push(stack, kept)?;
+                        step = Step::Ask(next, above);
+                    }
+                }
             }
         }
     }
