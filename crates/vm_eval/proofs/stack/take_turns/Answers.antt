@@ -78,6 +78,6 @@ turns-preserved-in-Ask-2 c =
     subst (λ n. IsOnItsWay task first units w stack n (Ask asked kept)) more (rw c.in-Ask.is at c.turns.invariant.way) in
     let begun = began task first units w c.begin_at.new.world stack asked kept left c.in_ok-first-in-Ask.first _ (omega (arith, c.len.ensures, c.turns.stack.ok.0)) now c.in_ok-first-in-Ask.ensures.goes c.in_ok-first-in-Ask.ensures.safe in
     record {
-      way = rw (c.in_ok-push-in-Ask-2.ensures.pushed, c.in-Ask-2.is) at begun;
+      way = rw c.in_ok-push-in-Ask-2.ensures.pushed (rw c.in-Ask-2.is at begun);
       room = let k = c.turns.invariant.room in let m = c.in_ok-push-in-Ask-2.ensures.room in omega (arith, k, m);
     }
