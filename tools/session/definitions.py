@@ -34,3 +34,7 @@ if ("View", "items_view") not in std.WORDS: std.word("items_view")(items_view)
 std.home("Data")
 if ("Data", "depth") not in std.WORDS: std.word("depth")(depth)
 if ("Data", "items_depth") not in std.WORDS: std.word("items_depth")(items_depth)
+# A box of other contents.
+def with_value(box, value): return values.changed(box, f_value=value)
+std.home("Box")
+if ("Box", "with_value") not in std.WORDS: std.word("with_value")(with_value)

@@ -1,8 +1,6 @@
 -- The words that the lemmas of this crate are written in: its own definitions, and words and lemmas of crates below.
 pub use Rattle.class_model.proofs.Agreed.{bind-agrees, entry-agrees}
 pub use Rattle.class_model.proofs.Arranged.{least_order-least, least_order-none, least_order-order}
-pub use Rattle.class_model.proofs.Below.{NoneIsBlamed, ascend_from, base, best_of, built_ins, derives_all, entries, entry, first_best, given_entry, has_members, heap_entry, is_ascending, is_by_itself, is_empty, is_heap_at, is_name_of, is_one_of, is_slot, is_solid, layout, layout_along, limit, member_count, members_in, numbers_of, past_all, place_along, place_count, read_along, slot, solid, sort_of, wrapped}
-unfoldable pub use Rattle.class_model.proofs.Below.{solid_within}
 pub use Rattle.class_model.proofs.Best.{best-moves, best-stays, sub-itself}
 pub use Rattle.class_model.proofs.Chain.{base-class}
 pub use Rattle.class_model.proofs.Changed.{bases_of-last, lin-by, lin-push}
@@ -27,8 +25,13 @@ pub use Rattle.class_model.specs.Change.{blamed_along, breaks_precedence, caused
 pub use Rattle.class_model.specs.Class.{Class, Classes, along, bases_of, class_at, first_along, is_along, is_class, is_heap, is_sub, lin, or_else, own_of, past_first, renamed, subclasses}
 pub use Rattle.class_model.specs.Collect.{attributes_along, attrs_of, with_values}
 pub use Rattle.class_model.specs.Dict.{alike, any_has_dict, dict_with, has_dict, has_its_dict, heap_class, is_dict, keeps_dict, says_dict, slot_members, slots_bring}
+pub use Rattle.class_model.specs.Failing.{NoneIsBlamed}
+pub use Rattle.class_model.specs.Layout.{base, best_of, built_ins, derives_all, first_best, has_members, is_empty, is_solid, layout, layout_along, member_count, members_in, place_along, place_count, solid}
+unfoldable pub use Rattle.class_model.specs.Layout.{solid_within}
 pub use Rattle.class_model.specs.Name.{dot, last_part, part_from}
+pub use Rattle.class_model.specs.Numbers.{ascend_from, is_ascending, limit, numbers_of, past_all}
 pub use Rattle.class_model.specs.Order.{BeginsWith, Distinct, Includes, IsOrder, Subsequence, all_some, has, is_distinct, is_lexicographic, least_order, linear, members_of, rank, ranks, unique, without}
+pub use Rattle.class_model.specs.Slot.{entries, entry, given_entry, heap_entry, is_by_itself, is_heap_at, is_name_of, is_one_of, read_along, slot, wrapped}
 pub use Rattle.class_model.specs.Start.{bases_from, built_class, built_in_classes}
 pub use Rattle.class_table.specs.Affected.{AreAffected}
 pub use Rattle.class_table.specs.Below.{AreDistinct, AreNamesDistinct, AreSound, Attr, Bor, BuiltIn, Cause, DuplicateBase, EmptyBases, ImmutableType, InheritanceCycle, Known, LayoutConflict, LayoutDiffers, LocalPrecedence, MroConflict, NotBaseType, PyObjectRef, PyStrInterned, PyTypeFlags, PyTypeRef, SlotEntry, SlotId, Text, Vec, bit_and, entry_among, fixed_node_count, heap_flags, heap_type, is_same_name, natives_of, option_or, value_of, with_value, without_key}
@@ -81,12 +84,15 @@ pub use Rattle.class_table.specs.declared.mro_merge.fault.MroFault.TheVariants.{
 pub use Rattle.class_table.specs.declared.renew.Renewed.{Renewed}
 pub use Rattle.class_table.specs.declared.trial.Trial.{Trial}
 pub use Rattle.class_table.specs.declared.trial.Trial.TheVariants.{Failed, Line, Without}
-pub use Rattle.py_node.proofs.Below.{Object, bytes_eq, bytes_eq-Decides, insert_key, keys_of}
-unfoldable pub use Rattle.py_node.proofs.Below.{IsDistinct, all_slots, known_texts, names_of, number_of, place_of, slot_names}
+pub use Rattle.indexmap.specs.IndexSet.{insert_key}
 pub use Rattle.py_node.proofs.SlotTables.{slot-at_place}
 unfoldable pub use Rattle.py_node.specs.BuiltIns.{all_built_ins, base_of, built_in_bases, built_in_flags, flags_of}
+unfoldable pub use Rattle.py_node.specs.Known.{known_texts, number_of}
 unfoldable pub use Rattle.py_node.specs.OwnAttrs.{own_attrs}
+pub use Rattle.py_node.specs.Slots.{is_slot, sort_of}
+unfoldable pub use Rattle.py_node.specs.Slots.{all_slots, names_of, place_of, slot_names}
 pub use Rattle.py_node.specs.contracts.entry.SlotId.{the_type}
+pub use Rattle.py_node.specs.declared.built_in.BuiltIn.TheVariants.{Object}
 pub use Rattle.py_node.specs.declared.entry.SlotEntry.TheVariants.{Unhashable, Wrapper}
 pub use Rattle.py_node.specs.declared.entry.SlotId.TheVariants.{Add, Hash, New}
 pub use Rattle.std.proofs.Common.{Bool, Err, IsTrue, List, None, Ok, OnErr, OnOk, Option, Result, Some, [], add-one, add-zero, ap, append-nil, append_assoc, arith, cond, drop, eqb, false, filter, fold, get_or, inl, inr, length, ltb, map, nat_eq, not, refl, replicate, rules, set, subst, suc, sym, take, true, true≢false, zero, ℕ, ◌∙◌}
@@ -102,7 +108,11 @@ pub use Rattle.std.proofs.lemmas.List.Sorted.{Contains-permutation, IsNonDecreas
 pub use Rattle.std.proofs.lemmas.List.Sums.{fold-append, sum_by-cons, sum_by_push}
 pub use Rattle.std.proofs.lemmas.Nat.{and_or_self}
 pub use Rattle.std.proofs.lemmas.Option.{get_or_from_slice_get, slice_get-get_or, slice_get-map, slice_get_within}
+pub use Rattle.std.proofs.lemmas.Slice.Eq.{bytes_eq-Decides}
 pub use Rattle.std.specs.List.{All, AllByRecursion, AllZip, flat_map, list_any, sum_by}
+unfoldable pub use Rattle.std.specs.List.{IsDistinct}
 pub use Rattle.std.specs.List.Sorted.{IsBinarySearchResult, IsNonDecreasingBy, IsPermutation, IsSearchInRange}
+pub use Rattle.std.specs.Map.{keys_of}
 pub use Rattle.std.specs.Ordering.{nat_cmp, ordering_index}
 pub use Rattle.std.specs.Prelude.{IfErr, IfNone, IfOk, IfSome, is_none, is_some, leb, nat_lt, option_and_then, option_map, slice_get, slice_index_or, unwrap_or}
+pub use Rattle.std.specs.Str.{bytes_eq}

@@ -1,5 +1,4 @@
 -- The words of crates below that the definitions and contracts of this crate are written in.
-pub use Rattle.class_model.specs.Below.{Attr, BuiltIn, ByMapping, BySequence, Cause, Known, PyObjectRef, SlotEntry, SlotId, Sort, Text, own_attrs}
 pub use Rattle.class_model.specs.BuiltIn.{compare_native, entry_among, entry_of, fills, is_among, is_number, is_sequence, natives_of, new_native}
 pub use Rattle.class_model.specs.Chain.{IsChain, base_chain, chain_from}
 pub use Rattle.class_model.specs.Change.{breaks_precedence, caused, failing, is_blamed, order_cause, stands_past, with_bases, with_class, with_class_attr, with_class_name, without_class_attr}
@@ -18,13 +17,24 @@ pub use Rattle.class_model.specs.Start.{built_class, built_in_classes}
 pub use Rattle.py_node.specs.Attributes.{AreNamesDistinct, is_same_name, value_of, with_value, without_key}
 pub use Rattle.py_node.specs.BuiltIns.{all_built_ins, base_type, fixed_node_count, fixed_none, heap_flags, heap_type}
 pub use Rattle.py_node.specs.Known.{known_texts, number_of}
+pub use Rattle.py_node.specs.OwnAttrs.{own_attrs}
 pub use Rattle.py_node.specs.Slots.{all_slots, filling_of, names_of, place_of, slot_count, sort_of}
 pub use Rattle.py_node.specs.Texts.{AreDistinct}
+pub use Rattle.py_node.specs.Tree.{Text}
+pub use Rattle.py_node.specs.declared.attr.Attr.{Attr}
 pub use Rattle.py_node.specs.declared.attr.Attr.TheVariants.{NoHash}
+pub use Rattle.py_node.specs.declared.built_in.BuiltIn.{BuiltIn}
+pub use Rattle.py_node.specs.declared.entry.SlotEntry.{SlotEntry}
+pub use Rattle.py_node.specs.declared.entry.SlotId.{SlotId}
 pub use Rattle.py_node.specs.declared.flags.PyTypeFlags.{PyTypeFlags}
+pub use Rattle.py_node.specs.declared.known.Known.{Known}
+pub use Rattle.py_node.specs.declared.raised.Cause.{Cause}
 pub use Rattle.py_node.specs.declared.raised.Cause.TheVariants.{DuplicateBase, EmptyBases, ImmutableType, InheritanceCycle, LayoutConflict, LayoutDiffers, LocalPrecedence, MroConflict, NotBaseType}
+pub use Rattle.py_node.specs.declared.refs.PyObjectRef.{PyObjectRef}
 pub use Rattle.py_node.specs.declared.refs.PyStrInterned.{PyStrInterned}
 pub use Rattle.py_node.specs.declared.refs.PyTypeRef.{PyTypeRef}
+pub use Rattle.py_node.specs.declared.slots.Sort.{Sort}
+pub use Rattle.py_node.specs.declared.slots.Sort.TheVariants.{ByMapping, BySequence}
 pub use Rattle.std.specs.Borrow.{Bor}
 pub use Rattle.std.specs.Global.{Vec}
 pub use Rattle.std.specs.Int.RustNames.{bit_and, bit_or}

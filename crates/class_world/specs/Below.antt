@@ -1,6 +1,14 @@
 -- The words of crates below that the definitions and contracts of this crate are written in.
+pub use Rattle.class_model.specs.BuiltIn.{natives_of}
+pub use Rattle.class_model.specs.Change.{with_bases, with_class}
 pub use Rattle.class_model.specs.Class.{Class, Classes, class_at, found, found_past, has_flag, is_class, is_sub, own_of, renamed}
-pub use Rattle.class_table.specs.Below.{AreNamesDistinct, Attr, BuiltIn, Cause, Known, PyObjectRef, PyStrInterned, PyTypeRef, Vec, all_attributes, any_has_dict, best_of, bit_and, built_ins, candidates_of, first_with, gives_dict, goes_first, has_dict, heap_class, is_heap_at, is_same_name, limit, natives_of, offset_of, option_or, own_attrs, place_at, place_count, short_name, slot, slot_members, slots_bring, value_of, with_bases, with_class}
+pub use Rattle.class_model.specs.Collect.{all_attributes}
+pub use Rattle.class_model.specs.Dict.{any_has_dict, gives_dict, has_dict, heap_class, slot_members, slots_bring}
+pub use Rattle.class_model.specs.Layout.{best_of, built_ins, place_at, place_count}
+pub use Rattle.class_model.specs.Name.{short_name}
+pub use Rattle.class_model.specs.Numbers.{limit}
+pub use Rattle.class_model.specs.Offset.{offset_of}
+pub use Rattle.class_model.specs.Slot.{candidates_of, first_with, goes_first, is_heap_at, slot}
 pub use Rattle.class_table.specs.ClassLog.Change.{Change, DelOwn, SetOwn, change_of}
 pub use Rattle.class_table.specs.ClassLog.Following.{Keeps}
 pub use Rattle.class_table.specs.ClassLog.Logged.{AreSameButForNames, IsGiven, IsLogged, made_by_script, made_single}
@@ -15,7 +23,6 @@ pub use Rattle.class_table.specs.Settle.{line_places}
 pub use Rattle.class_table.specs.Start.{Numbered, start_classes}
 pub use Rattle.class_table.specs.Turn.{list_of}
 pub use Rattle.plain_machine.specs.Args.{filled, two_of}
-pub use Rattle.plain_machine.specs.Below.{ClassMethod, Getter, GetterOf, New, NewWrapper, NoHash, Part, PyProperty, Raised, ReadOnly, Settable, SettablePart, Setter, SetterOf, raised}
 pub use Rattle.plain_machine.specs.Change.{SetBases, SetClass, SetDict, SetName, apply, without_own_attr}
 pub use Rattle.plain_machine.specs.Dicts.{dict_of, entries_from, entries_in, has_place, is_like, is_one_key, own_value, value_in, with_entries, with_entry, with_value_in, without_value_for, without_value_in}
 pub use Rattle.plain_machine.specs.Known.{the_bool, the_dict, the_none_type, the_not_implemented_type, the_str, the_type}
@@ -30,15 +37,23 @@ pub use Rattle.plain_machine.specs.Sound.{AreKeys, IsSound, Key, NumberKey, Text
 pub use Rattle.plain_machine.specs.Start.{attr_class, is_made, start}
 pub use Rattle.plain_machine.specs.Takes.{text_in, with_one, with_text, with_three, with_two, without_keywords}
 pub use Rattle.plain_machine.specs.World.{at_depth, candidates_at, datum_at, goes_first_at, in_last, is_text, next_node, or_else_var, or_empty, ref, slot_at, text_keys, variable, with_binding, with_new_class, with_node, with_own_attr, with_scope, without_calls, without_scope}
+pub use Rattle.py_node.specs.Attributes.{AreNamesDistinct, is_same_name, value_of}
 pub use Rattle.py_node.specs.BuiltIns.{all_built_ins, built_in_count, fixed_false, fixed_node_count, fixed_none, fixed_not_implemented, fixed_true, flags_of, heap_flags, heap_type, method_descriptor, place_of}
 pub use Rattle.py_node.specs.Dicts.{PlainDict, dict_pushed, dict_put, dict_removed, empty_dict, is_same_key, put_at}
+pub use Rattle.py_node.specs.Faults.{raised}
 pub use Rattle.py_node.specs.Known.{known_text, known_texts, number_of}
+pub use Rattle.py_node.specs.OwnAttrs.{own_attrs}
 pub use Rattle.py_node.specs.Places.{value_at}
 pub use Rattle.py_node.specs.Replies.{Started, started_of}
 pub use Rattle.py_node.specs.Texts.{AreDistinct, Stands}
 pub use Rattle.py_node.specs.Tree.{Entries, TAttr, TBind, TCall, TClass, TConst, TDelAttr, TDict, TFunc, TIf, TList, TName, TOp, TRaise, TSeq, TSetAttr, TTuple, Text, Tree, entry, keyed_of, literal_of, no_entries, trees_of}
+pub use Rattle.py_node.specs.declared.attr.Attr.{Attr}
+pub use Rattle.py_node.specs.declared.attr.Attr.TheVariants.{ClassMethod, New, NoHash, Part, ReadOnly, Settable, SettablePart}
+pub use Rattle.py_node.specs.declared.built_in.BuiltIn.{BuiltIn}
 pub use Rattle.py_node.specs.declared.built_in.BuiltIn.TheVariants.{Dict, Property, Str, TypeType}
 pub use Rattle.py_node.specs.declared.dict.PyDictKey.{PyDictKey}
+pub use Rattle.py_node.specs.declared.entry.NativeEntry.TheVariants.{Getter, GetterOf, NewWrapper, Setter, SetterOf}
+pub use Rattle.py_node.specs.declared.known.Known.{Known}
 pub use Rattle.py_node.specs.declared.known.Known.TheVariants.{Qualname}
 pub use Rattle.py_node.specs.declared.memory.OutOfMemory.{OutOfMemory}
 pub use Rattle.py_node.specs.declared.payload.Form.{Form}
@@ -47,10 +62,16 @@ pub use Rattle.py_node.specs.declared.payload.MemberDescriptor.{MemberDescriptor
 pub use Rattle.py_node.specs.declared.payload.Node.{Node}
 pub use Rattle.py_node.specs.declared.payload.Payload.{Payload}
 pub use Rattle.py_node.specs.declared.payload.Payload.TheVariants.{GetSet, MethodDescriptor, NativeFunction, Object}
+pub use Rattle.py_node.specs.declared.payload.PyProperty.{PyProperty}
 pub use Rattle.py_node.specs.declared.protocol.CompareTask.{CompareTask}
 pub use Rattle.py_node.specs.declared.protocol.ObjectTask.{ObjectTask}
 pub use Rattle.py_node.specs.declared.protocol.ProtocolTask.{ProtocolTask}
+pub use Rattle.py_node.specs.declared.raised.Cause.{Cause}
 pub use Rattle.py_node.specs.declared.raised.Cause.TheVariants.{QualnameType}
+pub use Rattle.py_node.specs.declared.raised.Raised.{Raised}
+pub use Rattle.py_node.specs.declared.refs.PyObjectRef.{PyObjectRef}
+pub use Rattle.py_node.specs.declared.refs.PyStrInterned.{PyStrInterned}
+pub use Rattle.py_node.specs.declared.refs.PyTypeRef.{PyTypeRef}
 pub use Rattle.py_node.specs.declared.task.Answer.{Answer}
 pub use Rattle.py_node.specs.declared.task.Answer.TheVariants.{Done, Exhausted, Maybe, Method, Number, Objects, Start, Truth, Value}
 pub use Rattle.py_node.specs.declared.task.AttributeTask.{AttributeTask}
@@ -66,5 +87,8 @@ pub use Rattle.py_node.specs.declared.task.Step.{Step}
 pub use Rattle.py_node.specs.declared.task.Step.TheVariants.{Ask, End}
 pub use Rattle.py_node.specs.declared.task.Task.{Task}
 pub use Rattle.std.specs.Box.{with_value}
+pub use Rattle.std.specs.Global.{Vec}
+pub use Rattle.std.specs.Int.RustNames.{bit_and}
 pub use Rattle.std.specs.List.{All, AllByRecursion, remove, splice}
+pub use Rattle.std.specs.Option.{option_or}
 pub use Rattle.std.specs.Prelude.{Bool, Err, IfErr, IfNone, IfOk, IfSome, IsSome, IsTrue, List, None, Ok, OnErr, OnOk, Option, Result, Some, [], cond, eqb, false, fold, is_none, is_some, length, ltb, map, nat_le, nat_lt, option_and_then, option_map, pos, position, slice_get, slice_set, string_bytes, suc, take, true, vec_capacity, vec_len, ℕ}

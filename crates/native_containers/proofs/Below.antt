@@ -1,7 +1,8 @@
 -- The words that the lemmas of this crate are written in: its own definitions, and words and lemmas of crates below.
-pub use Rattle.class_world.proofs.Below.{BuiltIn, fold_more}
+pub use Rattle.class_world.proofs.Claims.{each-get}
 pub use Rattle.class_world.proofs.DictEntries.{get-below}
 pub use Rattle.class_world.specs.Reading.{Reading, Reads, bindings, compare_job, datum, ended_of, plain, task_of}
+unfoldable pub use Rattle.class_world.specs.Sound.{Holds}
 pub use Rattle.native_containers.specs.Below.{AllHold, Answer, AreNodes, Ask, CompareNative, End, EndsAs, GetItem, Grows, Held, IdEq, IfErr, IsName, IsNode, IsUtf8, IterEnd, Kind, MissingKey, NativeEntry, NewOf, Next, OfIterator, OfList, OfTuple, PyObjectRef, PySlice, PyStrInterned, Raised, SelfType, SequenceIterator, Step, Steps, Task, Text, TooLong, Vec, World, as_said, class_object, datum_at, each_value, encode_utf8, entries_at, in_length, is_of, is_plain, is_some, items_at, keys_of, known_text, max, nat_le, next_node, number_hash, number_of, object_made, of_binding, of_each, of_keyed, option_and_then, option_map, ref, slice_get, slice_range, slice_set, text_made, the_int, the_str, value_of, w64, with_datum, with_heir, with_node, with_one, with_own, with_three, with_two}
 pub use Rattle.native_containers.specs.NativeCompare.Containers.{Objects, Pairs, asked, both_read, by_turns, in_turn, items_compared, turns_of, values_under, with_items}
 pub use Rattle.native_containers.specs.NativeCompare.Rows.{Begins, Compares, Comparing, StepsAt, TakesTurn, Turning, compared_stands, even, firsts, seconds}
@@ -41,13 +42,16 @@ pub use Rattle.plain_machine.specs.Plain.{AList, ANumber, AText, ATuple, Answere
 pub use Rattle.plain_machine.specs.Row.{Row, end, fault, most_items, none, noting, on_number, on_value, pass, read_objects, truth, value}
 pub use Rattle.plain_machine.specs.Rows.{Alike, Pending, fresh}
 pub use Rattle.py_node.specs.Faults.{raised}
+pub use Rattle.py_node.specs.declared.built_in.BuiltIn.{BuiltIn}
+pub use Rattle.py_node.specs.declared.memory.OutOfMemory.{OutOfMemory}
+pub use Rattle.py_node.specs.declared.payload.Payload.{Payload}
 pub use Rattle.py_node.specs.declared.protocol.CompareTask.{CompareTask}
+pub use Rattle.py_node.specs.declared.refs.PyTypeRef.{PyTypeRef}
 pub use Rattle.py_node.specs.declared.task.Answer.TheVariants.{Method, Number, Truth, Value}
-pub use Rattle.row_kit.proofs.Below.{OutOfMemory, Payload, PyTypeRef, drop-cons, each-get}
-unfoldable pub use Rattle.row_kit.proofs.Below.{Holds}
 pub use Rattle.row_kit.proofs.ContainersEnds.{Saying, then-ends}
 pub use Rattle.row_kit.proofs.ContainersLoops.{next}
 pub use Rattle.std.proofs.Common.{Bool, Err, IfOk, List, None, Ok, Option, Result, Some, [], add-one, ap, append-nil, append_assoc, ap₂, arith, cond, drop, eqb, false, fold, get_or, inl, inr, length, length-append, map, nat_lt, pos, refl, string_bytes, subst, suc, sym, take, take_all, tests, true, zero, zip, ℕ, ℤ, ◌∙◌}
+pub use Rattle.std.proofs.Math.Seq.{drop-cons}
 pub use Rattle.std.proofs.lemmas.Bool.{and_parts, cases_lt, eq-eqb, ne_eqb}
 pub use Rattle.std.proofs.lemmas.Bool.Decides.{nat_tests}
 pub use Rattle.std.proofs.lemmas.Grind.{common_steps}
@@ -55,6 +59,7 @@ pub use Rattle.std.proofs.lemmas.Int.{int_wrap-add_same, int_wrap-mul_left, ints
 pub use Rattle.std.proofs.lemmas.List.{drop_all, drop_more, length-map}
 pub use Rattle.std.proofs.lemmas.List.Concat.{flat_map-append}
 pub use Rattle.std.proofs.lemmas.List.Elements.{All-append, All-cons, All-drop, All-head, All-nil, All-set, All-tail, All-take}
+pub use Rattle.std.proofs.lemmas.List.Sums.{fold_more}
 pub use Rattle.std.proofs.lemmas.Str.{IsUtf8-append, IsUtf8-encode, IsUtf8-nil, encode_ascii, inside_one}
 pub use Rattle.std.specs.Cmp.Lexicographic.{pointwise}
 unfoldable pub use Rattle.std.specs.Int.{int_wrap}

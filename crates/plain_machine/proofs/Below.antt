@@ -1,6 +1,4 @@
 -- The words that the lemmas of this crate are written in: its own definitions, and words and lemmas of crates below.
-pub use Rattle.class_model.proofs.Below.{AreSound, BuiltIn, Includes, PyObjectRef, SlotEntry, SlotId, and_parts, append-nil, built_ins, eqb-true, first_with, has_members, is_empty, is_none, is_place, is_solid, is_some, layout, layout_along, limit, ltb-false, ltb-true, member_count, members_in, nat_lt, ne_eqb, option_and_then, option_map, place_along, place_at, says_dict, slice_get, slot, with_bases, with_changed, with_class}
-unfoldable pub use Rattle.class_model.proofs.Below.{all_arrangements, arrangements, least_order, linear}
 pub use Rattle.class_model.proofs.Changed.{lin-push}
 pub use Rattle.class_model.proofs.Dict.{has_dict-rebased}
 pub use Rattle.class_model.proofs.Kept.{has_dict-kept, is_class-kept, is_place-agrees, is_place-kept, layout-agrees, layout_along-agrees, lin-kept, member_count-kept, sound-kept}
@@ -9,10 +7,15 @@ pub use Rattle.class_model.proofs.Numbers.{at-before, at-changed, at-last, old-o
 pub use Rattle.class_model.proofs.Rule.{lin-classes}
 pub use Rattle.class_model.proofs.Solid.{is_solid-push}
 unfoldable pub use Rattle.class_model.specs.BuiltIn.{natives_of}
+pub use Rattle.class_model.specs.Change.{with_bases, with_changed, with_class}
 pub use Rattle.class_model.specs.Class.{Class, Classes, class_at, found, is_along, is_class, lin, or_else}
+pub use Rattle.class_model.specs.Layout.{built_ins, has_members, is_empty, is_place, is_solid, layout, layout_along, member_count, members_in, place_along, place_at}
+pub use Rattle.class_model.specs.Numbers.{limit}
+pub use Rattle.class_model.specs.Order.{Includes}
+unfoldable pub use Rattle.class_model.specs.Order.{all_arrangements, arrangements, least_order, linear}
 pub use Rattle.plain_machine.specs.Answer.{Follow, NoUnits, Out, Outcome, Over, asked, carry, step}
 unfoldable pub use Rattle.plain_machine.specs.Answer.{follow, reach}
-pub use Rattle.plain_machine.specs.Below.{DepthLimit, Native, Text, Unhashable, keys_of}
+pub use Rattle.plain_machine.specs.Below.{AreSound, BuiltIn, DepthLimit, Native, PyObjectRef, SlotEntry, SlotId, Text, Unhashable, first_with, is_none, is_some, keys_of, nat_lt, option_and_then, option_map, says_dict, slice_get, slot}
 pub use Rattle.plain_machine.specs.Change.{Bind, Change, MakeClass, MakeNode, SetBases, SetClass, SetDatum, SetDict, SetMember, SetName, SetOwn, apply, with_object_changed, with_place}
 pub use Rattle.plain_machine.specs.Conditions.{Allowed, CanMakeClass, CanMakeNode, CanSetBases, CanSetClass, CanSetDatum, CanSetDict, CanSetMember}
 pub use Rattle.plain_machine.specs.Known.{the_dict}
@@ -32,6 +35,8 @@ pub use Rattle.py_node.specs.declared.built_in.BuiltIn.TheVariants.{Dict, Functi
 pub use Rattle.py_node.specs.declared.entry.NativeEntry.TheVariants.{Compare, OfCallable, OfDescriptor, OfInt, OfObject, OfType}
 pub use Rattle.py_node.specs.declared.entry.SlotId.TheVariants.{Add, Call, DescrGet, DescrSet, Hash, Init, New, Repr, Richcompare, RightAdd}
 pub use Rattle.std.proofs.Common.{Bool, List, None, Option, Some, [], ap, append_assoc, arith, codes, cond, eqb, false, inl, inr, length, map, not, refl, subst, suc, sym, true, zero, ℕ, ◌∙◌}
+pub use Rattle.std.proofs.lemmas.Bool.{and_parts, eqb-true, ltb-false, ltb-true, ne_eqb}
+pub use Rattle.std.proofs.lemmas.List.{append-nil}
 pub use Rattle.std.proofs.lemmas.List.Elements.{All-cons, All-head, All-nil, All-push, All-tail, All-weaker}
 pub use Rattle.std.proofs.lemmas.Option.{slice_get_within}
 pub use Rattle.std.specs.List.{All, AllByRecursion}

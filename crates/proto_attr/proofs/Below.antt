@@ -1,13 +1,18 @@
 -- The words that the lemmas of this crate are written in: its own definitions, and words and lemmas of crates below.
+pub use Rattle.class_model.proofs.Renamed.{base-renamed, bases_of-renamed}
+pub use Rattle.class_model.proofs.Rule.{lin-classes}
+pub use Rattle.class_model.specs.Class.{Classes, along, bases_of, class_at, is_class, lin, own_of}
 pub use Rattle.class_table.proofs.Along.{held-at}
-pub use Rattle.class_world.proofs.Below.{AllHold, AreNames, AreNodes, Claim, Classes, Grows, Holding, IsClass, IsName, IsNode, IsOf, IsSound, Payload, PySetterValue, PyStrInterned, along, base-renamed, bases_of, bases_of-renamed, class_at, held_by, home, home_of, is_class, lin, lin-classes, of_binding, of_class_ref, of_each, of_node_ref, of_option, of_optional, of_property, own_of}
-unfoldable pub use Rattle.class_world.proofs.Below.{Holds, plain}
 pub use Rattle.class_world.proofs.Claims.{all-append, all-first, all-rest, each-push}
 pub use Rattle.class_world.proofs.Homes.{by_line}
 pub use Rattle.class_world.proofs.OfClasses.{line-seen}
+unfoldable pub use Rattle.class_world.specs.Reading.{plain}
 pub use Rattle.class_world.specs.Rows.{EndsAs, Goes, Steps}
+pub use Rattle.class_world.specs.Sound.{AllHold, AreNames, AreNodes, Claim, Grows, Holding, IsClass, IsName, IsNode, IsOf, home_of, of_binding, of_class_ref, of_each, of_node_ref, of_option, of_optional, of_property}
+unfoldable pub use Rattle.class_world.specs.Sound.{Holds}
 pub use Rattle.plain_machine.specs.Plain.{ADict, Answered, Asks, Bindings, Chose, Datum, DoBind, DoGetAttr, DoSuperCheck, Ended, Ends, Node, PlainTask, PlainWorld, ReadObjects, Said, ToAttribute, ToDescriptor, ToNative, Told}
 pub use Rattle.plain_machine.specs.Rows.{Alike, fresh}
+pub use Rattle.plain_machine.specs.Sound.{IsSound, held_by, home}
 pub use Rattle.proto_attr.specs.Below.{All, Answer, Ask, BuiltIn, Cause, DescrSet, DescriptorTask, Detail, End, GetterOf, Held, IfSome, ImmutableType, NativeEntry, NewOf, NoAttribute, Property, PropertyNative, PyObjectRef, PyProperty, PyTypeRef, Raised, Reading, Reads, Result, Row, Step, Task, Text, Value, World, all_some, argument, attrs_of, base, bindings, class_number, datum, datum_at, descriptor_job, end, ended_of, fault, fixed_none, is_attribute_error, is_heap_at, is_some, is_text, known_text, named_end, next_node, none, numbers, option_map, own_value, read_objects, ref, refused_attr, setter_value, slice_get, slot_at, special_at, spelled, start, task_of, the_dict, there_or, truth, value, with_lone_class, with_node, with_one, with_own_attr, with_two}
 pub use Rattle.proto_attr.specs.Laws.{AnswerIsGiven, ClassIsLast, DictIsNext, Gets, GetterAndSetterWins, NeitherHasIt, Sets}
 pub use Rattle.proto_attr.specs.NativeCalls.Asks.{answering, asking_stands, marking}
@@ -41,6 +46,9 @@ pub use Rattle.proto_attr.specs.declared.native_details.DetailKept.TheVariants.{
 pub use Rattle.proto_attr.specs.declared.proto_descr.DescriptorKept.TheVariants.{AfterGet, Done, Pass}
 pub use Rattle.py_node.specs.declared.known.Known.TheVariants.{Annotations, Doc, Get, Isabstractmethod}
 pub use Rattle.py_node.specs.declared.memory.OutOfMemory.{OutOfMemory}
+pub use Rattle.py_node.specs.declared.payload.Payload.{Payload}
 pub use Rattle.py_node.specs.declared.raised.Kind.TheVariants.{AttributeError}
+pub use Rattle.py_node.specs.declared.refs.PyStrInterned.{PyStrInterned}
 pub use Rattle.py_node.specs.declared.task.DescriptorTask.TheVariants.{DescrGet}
+pub use Rattle.py_node.specs.declared.task.PySetterValue.{PySetterValue}
 pub use Rattle.std.proofs.Common.{Bool, Err, IfOk, List, None, Ok, Option, Some, [], ap, ap₂, arith, codes, cond, drop, drop-cons, eqb, false, fold, get_or, length, map, refl, slice_index_or, subst, suc, sym, take, true, zero, ℕ, ◌∙◌}

@@ -1,20 +1,31 @@
 -- The words that the lemmas of this crate are written in: its own definitions, and words and lemmas of crates below.
+pub use Rattle.class_model.proofs.Layouts.{solid-rule}
 pub use Rattle.class_model.proofs.Made.{limit-within}
+pub use Rattle.class_model.proofs.Numbers.{at-last, some-of}
 pub use Rattle.class_model.proofs.PlaceOffsets.{in-layout}
+pub use Rattle.class_model.proofs.Rule.{lin-begins, lin-distinct}
+pub use Rattle.class_model.specs.Class.{Class, Classes, bases_of, is_class, lin, renamed, subclasses}
 pub use Rattle.class_model.specs.Layout.{before, best_of, built_ins, first_place, has_members, is_solid, layout_along, member_count, members_in, place_along, place_at, place_count, solid}
-pub use Rattle.class_table.proofs.Below.{BeginsWith, Class, Classes, Includes, all_some, bases_of, has, is_class, length-map, lin, lin-begins, lin-distinct, map-append, renamed, solid-rule, subclasses, take_all}
+pub use Rattle.class_model.specs.Numbers.{limit}
+pub use Rattle.class_model.specs.Order.{BeginsWith, Includes, all_some, has}
+pub use Rattle.class_model.specs.Sound.{AreSound}
 pub use Rattle.class_table.proofs.Counts.{count-line, layout-own}
 pub use Rattle.class_world.proofs.Apart.{all-cons, all-tail}
-pub use Rattle.class_world.proofs.Below.{All-drop, All-take, AllHold, AreExpressions, AreFilled, AreNames, AreNamesDistinct, AreNodes, AreSound, CanBeKeys, Grows, HasForm, HasParams, Holding, IsClass, IsExpression, IsName, IsNode, IsOf, IsSound, KeysDiffer, PyTypeRef, TextKey, Vec, at-last, has_value, held_key, is_same_name, key_at, key_of, keys_of, limit, of_binding, of_class_ref, of_each, of_form, of_node_ref, of_option, qualified, refused_heap, refused_name, slice_get_within, some-of, value_of, with_value}
-unfoldable pub use Rattle.class_world.proofs.Below.{Holds, IsDistinct, plain}
 pub use Rattle.class_world.proofs.Bound.{value-holds, value-read, with_value-holds, with_value-read}
 pub use Rattle.class_world.proofs.Claims.{all-grow, each-get, each-push, expression-in, get-end, got-map, more-nodes, no-nodes, node-in}
 pub use Rattle.class_world.proofs.DictEntries.{all-pushed, map-end}
+pub use Rattle.class_world.proofs.Growth.{grows-on}
 pub use Rattle.class_world.proofs.SoundWorld.{key_at-read, keys-stored}
+pub use Rattle.class_world.proofs.Stored.{map-push, names-push}
+pub use Rattle.class_world.specs.NewHeap.{qualified, refused_heap, refused_name}
 pub use Rattle.class_world.specs.Reading.{Reading, Reads, bindings, ended_of, entry_list, form_tree, spelled, stored_entries, task_of}
+unfoldable pub use Rattle.class_world.specs.Reading.{plain}
+pub use Rattle.class_world.specs.Sound.{AllHold, AreExpressions, AreFilled, AreNames, AreNodes, CanBeKeys, Grows, HasForm, HasParams, Holding, IsClass, IsExpression, IsName, IsNode, IsOf, KeysDiffer, has_value, held_key, of_binding, of_class_ref, of_each, of_form, of_node_ref, of_option}
+unfoldable pub use Rattle.class_world.specs.Sound.{Holds}
 pub use Rattle.plain_machine.proofs.Offsets.{members-append}
 pub use Rattle.plain_machine.proofs.Pushed.{holder}
 pub use Rattle.plain_machine.specs.Plain.{AClass, AClassMethod, ADict, AGetSet, AText, ATuple, Answered, Asks, Bindings, CallJob, Chose, Datum, DoBind, DoBody, DoCall, DoEval, DoGetAttr, DoIndex, DoIsTrue, DoMakeClass, DoNew, DoObject, DoType, Ended, Ends, EvalJob, Node, PlainTask, PlainWorld, ReadNames, ReadObjects, Said, ToAttribute, ToCall, ToEval, ToProtocol, Told, no_members}
+pub use Rattle.plain_machine.specs.Sound.{IsSound, TextKey, key_at, key_of}
 pub use Rattle.plain_machine.specs.World.{class_at, datum_at, has_dict, is_text, next_node, push_node, ref, text_keys, with_new_class, with_node, with_own_attr}
 pub use Rattle.proto_call.specs.Below.{Answer, ArgCount, Ask, Cause, End, EndsAs, Follows, Form, Function, Getter, Goes, Held, KeyType, Kind, Leaves, Ne, New, NullInName, ObjectNative, OutOfMemory, Pending, PyObjectRef, PyStrInterned, Raised, Row, SetNameCalled, Setter, Step, Steps, TooLong, TypeArgs, TypeNative, TypeType, Word, World, ask, class_number, end, entries_from, entry, evaluate, fault, filled, fresh, has_null, heap_class, is_not_implemented, known_text, most_items, natives_of, none, noting, numbers, of_pairs, on_truth, on_value, option_or, pass, raised, refused_layout, refused_order, slot_members, special_at, start, the_class_method, the_dict, the_function, the_getset, the_object, the_str, the_tuple, truth, two_of, type_object, value, with_definer}
 pub use Rattle.proto_call.specs.Bodies.{Enters, LastFilled, RunsAs, by_keywords_of, by_place_of, datum_of, last_in, opened_of}
@@ -39,12 +50,19 @@ pub use Rattle.proto_call.specs.declared.eval_forms.bounds.Counted.{Counted}
 pub use Rattle.proto_call.specs.declared.eval_forms.bounds.Part.{Part}
 pub use Rattle.proto_call.specs.declared.eval_forms.call_form.Called.{Called}
 pub use Rattle.proto_call.specs.declared.eval_forms.outcome.Outcome.{Outcome}
+pub use Rattle.py_node.specs.Attributes.{AreNamesDistinct, is_same_name, value_of, with_value}
 pub use Rattle.py_node.specs.Tree.{KeyedTrees, TDict, Text, Tree, entry_trees, keyed_of, list_of, no_keyed, trees_of}
 pub use Rattle.py_node.specs.declared.known.Known.TheVariants.{Metaclass, MroEntries, SetName}
+pub use Rattle.py_node.specs.declared.refs.PyTypeRef.{PyTypeRef}
 pub use Rattle.py_node.specs.declared.task.Answer.TheVariants.{Done, Exhausted, Maybe, Method, Number, Objects, Start, Truth, Value}
 pub use Rattle.py_node.specs.declared.task.Task.{Task}
 pub use Rattle.std.proofs.Common.{Bool, Err, List, None, Ok, Option, Some, [], ap, append_assoc, arith, cond, drop, drop-cons, eqb, false, filter, get_or, inl, inr, is_none, length, length-append, map, min, not, refl, rules, slice_index_or, string_bytes, subst, suc, sym, take, tests, true, zero, ℕ, ◌∙◌}
 pub use Rattle.std.proofs.lemmas.Bool.{eq-eqb, eqb-true, lt-ltb, ltb-true, ne_eqb, true≢false}
+pub use Rattle.std.proofs.lemmas.List.{length-map, map-append, take_all}
+pub use Rattle.std.proofs.lemmas.List.Elements.{All-drop, All-take}
+pub use Rattle.std.proofs.lemmas.Option.{slice_get_within}
+pub use Rattle.std.specs.Global.{Vec}
 pub use Rattle.std.specs.List.{All, AllByRecursion, find, list_all, list_any}
+unfoldable pub use Rattle.std.specs.List.{IsDistinct}
+pub use Rattle.std.specs.Map.{keys_of}
 pub use Rattle.std.specs.Prelude.{IfOk, IfSome, IsTrue, Result, is_some, nat_le, nat_lt, option_and_then, option_map, slice_get}
-pub use Rattle.world_text.proofs.Below.{grows-on, map-push, names-push}

@@ -1,6 +1,9 @@
 -- The words that the lemmas of this crate are written in: its own definitions, and words and lemmas of crates below.
-pub use Rattle.class_world.proofs.Below.{Vec, bytes_eq-Decides, is_same_name, value_of}
+pub use Rattle.class_world.proofs.Claims.{more-nodes, no-nodes}
+pub use Rattle.class_world.specs.Held.{Held}
 pub use Rattle.class_world.specs.Reading.{Reading, Reads, bindings, datum, ended_of, plain, task_of}
+pub use Rattle.class_world.specs.Rows.{EndsAs, Steps}
+unfoldable pub use Rattle.class_world.specs.Sound.{Holds}
 pub use Rattle.plain_machine.specs.Dicts.{dict_of, is_text_datum}
 pub use Rattle.plain_machine.specs.Row.{Row, end, fault, fits, make, most_items, none, noting, pass, value}
 pub use Rattle.proto_object.specs.Below.{AList, AText, ATuple, AllHold, Answer, Answered, AreNodes, AsExhausted, AsTruth, AsValue, Ask, Asks, Chose, Datum, DoAbsSub, DoDelSlice, DoDir, DoGetSlice, DoHint, DoInst, DoInvoke, DoIsInstance, DoIsSubclass, DoKeys, DoNext, DoSetSlice, DoSpecial, DoSub, End, Ended, Ends, Fact, IsNode, MapAssSubscript, MapSubscript, ObjectJob, PlainWorld, PyObjectRef, Raised, ReadObjects, Said, SlotEntry, Step, Text, ToAttribute, ToObject, ToProtocol, Told, World, all_attributes, class_at, datum_at, entered, in_range, is_ascii_digit, is_exactly, is_text, items_at, keyed, known_text, list_all, list_made, of_binding, of_each, of_ended, of_method, of_object_task, of_step, or_no_attributes, ref, slot_at, the_list, the_type}
@@ -28,21 +31,26 @@ pub use Rattle.proto_object.specs.declared.proto_iter.seek.Search.{Search}
 pub use Rattle.proto_object.specs.declared.proto_iter.seek.Seeking.{Seeking}
 pub use Rattle.proto_object.specs.declared.turns.Turn.{Turn}
 pub use Rattle.proto_object.specs.declared.turns.Turn.TheVariants.{Derives, InstanceOf, SubclassOf}
+pub use Rattle.py_node.specs.Attributes.{is_same_name, value_of}
 pub use Rattle.py_node.specs.Faults.{raised}
 pub use Rattle.py_node.specs.declared.known.Known.TheVariants.{Instancecheck, Subclasscheck}
+pub use Rattle.py_node.specs.declared.payload.Payload.{Payload}
 pub use Rattle.py_node.specs.declared.raised.Cause.TheVariants.{IndexRange, IntLiteral, IntRange, TooLong}
+pub use Rattle.py_node.specs.declared.refs.PyStrInterned.{PyStrInterned}
 pub use Rattle.py_node.specs.declared.task.Answer.TheVariants.{Done, Exhausted, Maybe, Method, Number, Objects, Start, Truth, Value}
 pub use Rattle.py_node.specs.declared.task.PyMethod.{PyMethod}
 pub use Rattle.py_node.specs.declared.task.Task.{Task}
-pub use Rattle.row_kit.proofs.Below.{EndsAs, FitsSigned, Held, Payload, PyStrInterned, Steps, more-nodes, no-nodes, w128}
-unfoldable pub use Rattle.row_kit.proofs.Below.{Holds}
 pub use Rattle.row_kit.proofs.Fits.{fits-false}
 pub use Rattle.row_kit.proofs.ProtoBase.Each.{items-so-far, told-more}
 pub use Rattle.row_kit.specs.ProtoBase.Each.{all_items, any_of, number, objects, says, turned}
 pub use Rattle.std.proofs.Common.{Bool, Err, List, None, Ok, Option, Result, Some, [], ap, append_assoc, arith, cond, drop, false, filter, get_or, inl, inr, length, map, not, refl, subst, suc, sym, true, zero, ℕ, ◌∙◌}
 pub use Rattle.std.proofs.lemmas.Bool.{eq-eqb, eqb-true, le-ltb, true≢false}
 pub use Rattle.std.proofs.lemmas.List.{append-nil, map-append}
+pub use Rattle.std.proofs.lemmas.Slice.Eq.{bytes_eq-Decides}
 pub use Rattle.std.proofs.lemmas.Str.Parse.{numerals_by_value, tells_all_ascii_digits}
+pub use Rattle.std.specs.Global.{Vec}
+pub use Rattle.std.specs.Int.{w128}
+pub use Rattle.std.specs.Int.RustNames.{FitsSigned}
 pub use Rattle.std.specs.Prelude.{eqb, is_some, nat_le, pos, slice_get, ℤ}
 pub use Rattle.std.specs.Str.{all_ascii_digits}
 pub use Rattle.std.specs.Str.Parse.{IsNumeral, digits_value, signed_digits_value, starts_with_minus, without_leading_sign}

@@ -1,4 +1,7 @@
 -- The words that the lemmas of this crate are written in: its own definitions, and words and lemmas of crates below.
+pub use Rattle.class_world.specs.Rows.{EndsAs, Steps}
+unfoldable pub use Rattle.class_world.specs.Sound.{Holds}
+pub use Rattle.plain_machine.specs.Known.{the_str, the_tuple}
 pub use Rattle.plain_machine.specs.Plain.{AList, ANumber, AText, ATuple, Answered, AsTruth, Asks, Bindings, Chose, DoBoolEq, DoCompare, DoIdEq, DoIndex, DoInplaceRepeat, DoInt, DoRepeat, Ends, PlainWorld, ReadObjects, Said, ToCompare, ToNative, ToOperator, ToProtocol, Told}
 pub use Rattle.proto_ops.specs.Below.{Answer, AreNodes, Held, IfErr, IfOk, NativeEntry, OfList, OfStr, OfTuple, PyComparisonOp, PyObjectRef, PyStrInterned, Raised, Reading, Reads, RepeatTooLong, Result, Row, SomeIff, Text, Vec, World, as_said, ask, bindings, datum_at, elsewhere, end, eqb, is_not_implemented, next_node, number_of, or_else, pass, plain, repeat, value, w128, with_node, with_read, within_index, ℤ}
 pub use Rattle.proto_ops.specs.NativeNumbers.Numbers.{quotient, remainder}
@@ -21,10 +24,10 @@ pub use Rattle.py_node.specs.declared.entry.StrNative.{StrNative}
 pub use Rattle.py_node.specs.declared.entry.TupleNative.{TupleNative}
 pub use Rattle.py_node.specs.declared.task.Answer.TheVariants.{Truth, Value}
 pub use Rattle.py_node.specs.declared.task.Step.TheVariants.{Ask, End}
-pub use Rattle.row_kit.proofs.Below.{All-append, EndsAs, FitsSigned, Steps, the_str, the_tuple}
-unfoldable pub use Rattle.row_kit.proofs.Below.{Holds}
 pub use Rattle.row_kit.proofs.Fits.{fits-false, fits-true}
 pub use Rattle.row_kit.specs.Repeats.{list_repeated, native_repeat, repeated, sequence_for, with_times}
 pub use Rattle.row_kit.specs.Say.{object_made}
 pub use Rattle.std.proofs.Common.{All, Err, List, None, Ok, Option, Some, [], ap, append_assoc, arith, cond, false, length, neg_ℤ, negsuc, pos, refl, subst, suc, sym, true, zero, ℕ, ◌∙◌}
 pub use Rattle.std.proofs.Math.Pow.{pow_mono}
+pub use Rattle.std.proofs.lemmas.List.Elements.{All-append}
+pub use Rattle.std.specs.Int.RustNames.{FitsSigned}

@@ -1,8 +1,9 @@
 -- The words that the lemmas of this crate are written in: its own definitions, and words and lemmas of crates below.
 pub use Rattle.plain_machine.specs.Escapes.{escaped, hexadecimal, mark, quoted}
 unfoldable pub use Rattle.plain_machine.specs.Escapes.{escaped_byte}
-pub use Rattle.py_node.proofs.Below.{CallParts, ClassParts, bytes_eq-Decides}
 pub use Rattle.py_node.specs.Tree.{TCall, TClass, TOp, Text, Tree, entries_of, entry, pair_of, texts_of, tree_of, trees_of}
+pub use Rattle.py_node.specs.declared.expr.CallParts.{CallParts}
+pub use Rattle.py_node.specs.declared.expr.ClassParts.{ClassParts}
 pub use Rattle.py_node.specs.declared.expr.Expr.{Call, Class, Expr, Op, the_lemmas}
 pub use Rattle.script_text.specs.Below.{All, Command, Data, Err, IfErr, Items, Result, Value, Word, array, as_str, call_line, class_member, codes, depth, digit_char, find, flat_map, item, items_depth, items_view, joined, leb, list_any, members_view, no_items, option_and_then, read, replies_text, reply_of, slot_word, started_of, vec_len, view}
 pub use Rattle.script_text.specs.FormParts.{formed, many_tree, parts_depth, single_tree}
@@ -35,6 +36,7 @@ pub use Rattle.std.proofs.lemmas.Grind.{common_steps}
 pub use Rattle.std.proofs.lemmas.List.{length-map, map-append, map_more}
 pub use Rattle.std.proofs.lemmas.List.Concat.{flat_map-append}
 pub use Rattle.std.proofs.lemmas.Map.Text.{is_eq-slice_cmp}
+pub use Rattle.std.proofs.lemmas.Slice.Eq.{bytes_eq-Decides}
 pub use Rattle.std.proofs.lemmas.Str.{IsUtf8-append, IsUtf8-encode, IsUtf8-from_is_utf8, IsUtf8-nil, encode_ascii, inside_one, is_utf8-from_IsUtf8}
 pub use Rattle.std.specs.BTreeSet.{insert_key}
 pub use Rattle.std.specs.Cmp.Lexicographic.{slice_cmp}

@@ -1,19 +1,33 @@
 -- The words that the lemmas of this crate are written in: its own definitions, and words and lemmas of crates below.
 pub use Rattle.class_world.specs.Reading.{Reading, Reads, bindings, ended_of, scope_of, task_of}
-pub use Rattle.native_containers.proofs.Below.{ComparedKept, ItemKept, PartsKept, Row, fault}
-unfoldable pub use Rattle.native_containers.proofs.Below.{compared_job_say, item_job_say, parts_job_say}
+unfoldable pub use Rattle.class_world.specs.Reading.{plain}
+pub use Rattle.class_world.specs.Rows.{EndsAs, Goes, Steps}
+unfoldable pub use Rattle.native_containers.specs.NativeCompare.Say.{compared_job_say}
+unfoldable pub use Rattle.native_containers.specs.NativeItems.Say.{item_job_say}
+unfoldable pub use Rattle.native_containers.specs.NativeParts.Say.{parts_job_say}
+pub use Rattle.native_containers.specs.declared.native_compare.ComparedKept.{ComparedKept}
+pub use Rattle.native_containers.specs.declared.native_items.ItemKept.{ItemKept}
+pub use Rattle.native_containers.specs.declared.native_parts.PartsKept.{PartsKept}
 pub use Rattle.plain_machine.proofs.Follow.{reach-alike, reach-is}
 pub use Rattle.plain_machine.specs.Answer.{NoUnits, Out, Outcome, Over, Run, answer, answering, asked, carry, plain_run, reach, replied, step}
 pub use Rattle.plain_machine.specs.Plain.{Answered, Asks, Bindings, DoEval, Ended, Ends, PlainTask, PlainWorld, ProtocolJob, Said, Saying, ToAttribute, ToCall, ToClass, ToCompare, ToDescriptor, ToEval, ToNative, ToObject, ToOperator, ToProtocol, Told}
+pub use Rattle.plain_machine.specs.Row.{Row, fault}
 pub use Rattle.plain_machine.specs.Rows.{Alike, Pending, fresh, given}
-pub use Rattle.proto_attr.proofs.Below.{Class, EndsAs, Goes, NativeKept, Static, Steps}
-unfoldable pub use Rattle.proto_attr.proofs.Below.{asking_job_say, detail_job_say, plain}
+unfoldable pub use Rattle.proto_attr.specs.NativeCalls.Say.{asking_job_say}
+unfoldable pub use Rattle.proto_attr.specs.NativeDetails.Say.{detail_job_say}
+pub use Rattle.proto_attr.specs.declared.native_calls.NativeKept.{NativeKept}
+pub use Rattle.proto_attr.specs.declared.native_calls.way.Wrapper.TheVariants.{Class, Static}
 pub use Rattle.proto_attr.specs.declared.native_details.DetailKept.{DetailKept}
-pub use Rattle.proto_object.proofs.Below.{ItemsKept, IterKept, Search, iter_stands, search_job}
+pub use Rattle.proto_object.specs.ProtoIter.Rows.{iter_stands, search_job}
+pub use Rattle.proto_object.specs.declared.proto_items.ItemsKept.{ItemsKept}
+pub use Rattle.proto_object.specs.declared.proto_iter.IterKept.{IterKept}
+pub use Rattle.proto_object.specs.declared.proto_iter.seek.Search.{Search}
 pub use Rattle.proto_object.specs.declared.proto_number.NumberKept.{NumberKept}
 pub use Rattle.proto_object.specs.declared.proto_number.NumberKept.TheVariants.{AfterBool, AfterIndex, AfterIndexOf, AfterInt, AfterLen, AfterLength, AfterTruncate, Called, Expected, Measured, Pass}
-pub use Rattle.proto_ops.proofs.Below.{RepeatKept, Repeated, entry_of}
-unfoldable pub use Rattle.proto_ops.proofs.Below.{repeat_job_say}
+pub use Rattle.proto_ops.specs.NativeRepeats.Say.{entry_of}
+unfoldable pub use Rattle.proto_ops.specs.NativeRepeats.Say.{repeat_job_say}
+pub use Rattle.proto_ops.specs.declared.native_repeats.RepeatKept.{RepeatKept}
+pub use Rattle.proto_ops.specs.declared.native_repeats.kind.Repeated.{Repeated}
 pub use Rattle.py_node.specs.Replies.{PlainReplyAnswer, Started, reply_of}
 pub use Rattle.py_node.specs.declared.raised.Cause.TheVariants.{DepthLimit}
 pub use Rattle.std.proofs.Common.{List, Ok, Result, [], ap, arith, cond, drop, false, length, length-append, map, nat_lt, refl, subst, suc, sym, true, zero, zero-add, ℕ, ◌∙◌}
