@@ -21,5 +21,5 @@ pub use Rattle.vm_eval.specs.Asks.{ending_in, unnoted}
 pub use Rattle.vm_eval.specs.Below.{AllHold, Ask, Claim, Grows, IsSome, ToAttribute, ToCall, ToClass, ToCompare, ToDescriptor, ToEval, ToObject, ToOperator, ToProtocol, asking_stands, attribute_say, attribute_stands, bodies_of, call_job_say, call_stands, class_job_say, class_stands, compare_job_say, compare_stands, compared_stands, descriptor_say, descriptor_stands, detail_stands, eval_say, eval_stands, item_stands, items_job_say, items_stands, iter_job_say, iter_stands, number_job_say, number_stands, numbers, object_job_say, object_stands, of_attribute_kept, of_call_kept, of_class_kept, of_compare_kept, of_descriptor_kept, of_eval_kept, of_items_kept, of_iter_kept, of_number_kept, of_object_kept, of_operator_kept, of_task, operator_say, operator_stands, parts_stands, refused_change, repeat_stands, told, tree_of}
 pub use Rattle.vm_eval.specs.OfNatives.Rows.{native_job, natives_stands, of_natives_kept}
 pub use Rattle.vm_eval.specs.Say.{bodies_in, of_kept, say, to_native}
-pub use Rattle.vm_eval.specs.Stack.{IsOnItsWay, ending_of, of_end, state}
+pub use Rattle.vm_eval.specs.Stack.{ending_of, of_end, state}
 pub use Rattle.vm_eval.specs.State.{State}

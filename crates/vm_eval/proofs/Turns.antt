@@ -129,16 +129,18 @@ module _ (task : Task) (first : World) (units : ℕ) where
   }
 
   -- where an asked task begins above the row's frame
-  pub began : (w new : World) (stack : List Kept) (asked : Task) (kept : Kept) (left : ℕ) (next : Step Kept) (depth : ℕ) → depth ≡ suc (length stack) → IsOnItsWay task first units w stack (suc left) (Ask asked kept) → BeginsAt depth asked w new next → LeavesOpen of_kept bodies_in 0 w new (Ok next) → IsOnItsWay task first units new (stack ++ kept ∷ []) left next
-  began w new stack asked kept left next depth deep way goes leaves = record {
-    outcome = λ t reads.
-        let o = way.outcome t (goes t reads).0 in
-        (o.0, state-asked t w stack asked kept left new next depth deep goes reads ∙ o.1);
-    lasts = lasts-on first w new way.lasts leaves.0;
-    bodies = let b = way.bodies in let l = leaves.1.1 in let s = sum_by_push bodies_in stack kept in omega (arith, b, l, s);
-    frames = all-last w new leaves.0 _ (each-push w of_kept stack kept way.frames (all-rest w (of_task asked) (of_kept kept) way.claims));
-    claims = leaves.1.0;
-  }
+  pub began : (w new : World) (stack : List Kept) (asked : Task) (kept : Kept) (left rest depth : ℕ) (next : Step Kept) → left ≡ suc rest → depth ≡ suc (length stack) → IsOnItsWay task first units w stack left (Ask asked kept) → BeginsAt depth asked w new next → LeavesOpen of_kept bodies_in 0 w new (Ok next) → IsOnItsWay task first units new (stack ++ kept ∷ []) rest next
+  began w new stack asked kept left rest depth next more deep way goes leaves =
+      let on : IsOnItsWay task first units w stack (suc rest) (Ask asked kept) = subst (λ n. IsOnItsWay task first units w stack n (Ask asked kept)) more way in
+      record {
+        outcome = λ t reads.
+            let o = on.outcome t (goes t reads).0 in
+            (o.0, state-asked t w stack asked kept rest new next depth deep goes reads ∙ o.1);
+        lasts = lasts-on first w new on.lasts leaves.0;
+        bodies = let b = on.bodies in let l = leaves.1.1 in let s = sum_by_push bodies_in stack kept in omega (arith, b, l, s);
+        frames = all-last w new leaves.0 _ (each-push w of_kept stack kept on.frames (all-rest w (of_task asked) (of_kept kept) on.claims));
+        claims = leaves.1.0;
+      }
 
   -- it has come to an end where no frame waits
   pub over : (w : World) (r : Result Answer Fault) (left : ℕ) → IsOnItsWay task first units w [] left (End r) → Reaches task first units w (code.Over r)

@@ -1,4 +1,4 @@
-use Rattle.vm_eval.proofs.Lemmas.{suc, [], arith, sym, subst, Ask, of_task, all-first, all-last, all-rest, each-pop, of_kept, IsOnItsWay, state-first, no-frames, resumed, began, over, spent}
+use Rattle.vm_eval.proofs.Lemmas.{[], arith, of_task, all-first, all-last, all-rest, each-pop, of_kept, state-first, no-frames, resumed, began, over, spent}
 use Rattle.std.proofs.Common.{◌≡◌, ◌+◌, ◌-◌}
 use Rattle.vm_eval.proofs.stack.take_turns.Goals as goal
 
@@ -46,37 +46,17 @@ resume-requires-in-End-2-clause-kept c =
 
 pub turns-preserved-in-End-2 : goal.turns-preserved-in-End-2
 turns-preserved-in-End-2 c =
-    let task = c.args.task in
-    let first = c.args.world.now in
-    let units = c.args.units in
-    let w = c.turns.world in
-    let stack = c.turns.stack.items in
-    let asked = c.in-Ask.asked in
-    let kept = c.in-Ask.kept in
-    let left = c.turns.left - 1 in
-    let more : c.turns.left ≡ suc (c.turns.left - 1) = omega arith in
-    let now : IsOnItsWay task first units w stack (suc left) (Ask asked kept) =
-    subst (λ n. IsOnItsWay task first units w stack n (Ask asked kept)) more (rw c.in-Ask.is at c.turns.invariant.way) in
-    let begun = began task first units w c.begin_at.new.world stack asked kept left c.in_ok-first-in-Ask.first (c.len.result + 1) (omega (arith, c.len.ensures, c.turns.stack.ok.0)) now c.in_ok-first-in-Ask.ensures.goes c.in_ok-first-in-Ask.ensures.safe in
+    let way = rw c.in-Ask.is at c.turns.invariant.way in
+    let begun = began c.args.task c.args.world.now c.args.units c.turns.world c.begin_at.new.world c.turns.stack.items c.in-Ask.asked c.in-Ask.kept c.turns.left (c.turns.left - 1) (c.len.result + 1) c.in_ok-first-in-Ask.first (omega arith) (omega (arith, c.len.ensures, c.turns.stack.ok.0)) way c.in_ok-first-in-Ask.ensures.goes c.in_ok-first-in-Ask.ensures.safe in
     record {
-      way = resumed task first units c.begin_at.new.world c.resume-in-End-2.new.world stack kept c.in-End-2.answer left c.in_ok-step-in-End-2.step (rw c.in-End-2.is at begun) c.in_ok-step-in-End-2.ensures.goes c.in_ok-step-in-End-2.ensures.safe;
+      way = resumed c.args.task c.args.world.now c.args.units c.begin_at.new.world c.resume-in-End-2.new.world c.turns.stack.items c.in-Ask.kept c.in-End-2.answer (c.turns.left - 1) c.in_ok-step-in-End-2.step (rw c.in-End-2.is at begun) c.in_ok-step-in-End-2.ensures.goes c.in_ok-step-in-End-2.ensures.safe;
       room = c.turns.invariant.room;
     }
 
-pub turns-preserved-in-Ask-2 : goal.turns-preserved-in-Ask-2
-turns-preserved-in-Ask-2 c =
-    let task = c.args.task in
-    let first = c.args.world.now in
-    let units = c.args.units in
-    let w = c.turns.world in
-    let stack = c.turns.stack.items in
-    let asked = c.in-Ask.asked in
-    let kept = c.in-Ask.kept in
-    let left = c.turns.left - 1 in
-    let more : c.turns.left ≡ suc (c.turns.left - 1) = omega arith in
-    let now : IsOnItsWay task first units w stack (suc left) (Ask asked kept) =
-    subst (λ n. IsOnItsWay task first units w stack n (Ask asked kept)) more (rw c.in-Ask.is at c.turns.invariant.way) in
-    let begun = began task first units w c.begin_at.new.world stack asked kept left c.in_ok-first-in-Ask.first (c.len.result + 1) (omega (arith, c.len.ensures, c.turns.stack.ok.0)) now c.in_ok-first-in-Ask.ensures.goes c.in_ok-first-in-Ask.ensures.safe in
+pub turns-preserved : goal.turns-preserved
+turns-preserved c =
+    let way = rw c.in-Ask.is at c.turns.invariant.way in
+    let begun = began c.args.task c.args.world.now c.args.units c.turns.world c.begin_at.new.world c.turns.stack.items c.in-Ask.asked c.in-Ask.kept c.turns.left (c.turns.left - 1) (c.len.result + 1) c.in_ok-first-in-Ask.first (omega arith) (omega (arith, c.len.ensures, c.turns.stack.ok.0)) way c.in_ok-first-in-Ask.ensures.goes c.in_ok-first-in-Ask.ensures.safe in
     record {
       way = rw c.in_ok-push-in-Ask-2.ensures.pushed (rw c.in-Ask-2.is at begun);
       room = let k = c.turns.invariant.room in let m = c.in_ok-push-in-Ask-2.ensures.room in omega (arith, k, m);
