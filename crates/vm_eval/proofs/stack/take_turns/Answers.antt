@@ -1,4 +1,4 @@
-use Rattle.vm_eval.proofs.Lemmas.{[], arith, of_task, all-first, all-last, all-rest, each-pop, of_kept, state-first, no-frames, resumed, began, over, spent}
+use Rattle.vm_eval.proofs.Lemmas.{[], arith, lasts-on, of_task, all-first, all-last, all-rest, each-pop, of_kept, state-first, no-frames, resumed, began, over, spent}
 use Rattle.std.proofs.Common.{◌≡◌, ◌+◌, ◌-◌}
 use Rattle.vm_eval.proofs.stack.take_turns.Goals as goal
 
@@ -40,16 +40,16 @@ returns-then-left-eq0-clause-reaches c =
 pub begin_at-requires : goal.begin_at-requires
 begin_at-requires c = all-first c.turns.world (of_task c.in-Ask.asked) (of_kept c.in-Ask.kept) (rw c.in-Ask.is at c.turns.invariant.way.claims)
 
-pub resume-requires-in-End-2-clause-kept : goal.resume-requires-in-End-2-clause-kept
-resume-requires-in-End-2-clause-kept c =
+pub resume-requires-in-End-first-clause-kept : goal.resume-requires-in-End-first-clause-kept
+resume-requires-in-End-first-clause-kept c =
     all-last c.turns.world _ c.in_ok-first-in-Ask.ensures.safe.0 _ (all-rest c.turns.world (of_task c.in-Ask.asked) (of_kept c.in-Ask.kept) (rw c.in-Ask.is at c.turns.invariant.way.claims))
 
-pub turns-preserved-in-End-2 : goal.turns-preserved-in-End-2
-turns-preserved-in-End-2 c =
+pub turns-preserved-in-End-first : goal.turns-preserved-in-End-first
+turns-preserved-in-End-first c =
     let way = rw c.in-Ask.is at c.turns.invariant.way in
     let begun = began c.args.task c.args.world.now c.args.units c.turns.world c.begin_at.new.world c.turns.stack.items c.in-Ask.asked c.in-Ask.kept c.turns.left (c.turns.left - 1) (c.len.result + 1) c.in_ok-first-in-Ask.first (omega arith) (omega (arith, c.len.ensures, c.turns.stack.ok.0)) way c.in_ok-first-in-Ask.ensures.goes c.in_ok-first-in-Ask.ensures.safe in
     record {
-      way = resumed c.args.task c.args.world.now c.args.units c.begin_at.new.world c.resume-in-End-2.new.world c.turns.stack.items c.in-Ask.kept c.in-End-2.answer (c.turns.left - 1) c.in_ok-step-in-End-2.step (rw c.in-End-2.is at begun) c.in_ok-step-in-End-2.ensures.goes c.in_ok-step-in-End-2.ensures.safe;
+      way = resumed c.args.task c.args.world.now c.args.units c.begin_at.new.world c.resume-in-End-first.new.world c.turns.stack.items c.in-Ask.kept c.in-End-first.answer (c.turns.left - 1) c.in_ok-step-in-End-first.step (rw c.in-End-first.is at begun) c.in_ok-step-in-End-first.ensures.goes c.in_ok-step-in-End-first.ensures.safe;
       room = c.turns.invariant.room;
     }
 
@@ -58,6 +58,10 @@ turns-preserved c =
     let way = rw c.in-Ask.is at c.turns.invariant.way in
     let begun = began c.args.task c.args.world.now c.args.units c.turns.world c.begin_at.new.world c.turns.stack.items c.in-Ask.asked c.in-Ask.kept c.turns.left (c.turns.left - 1) (c.len.result + 1) c.in_ok-first-in-Ask.first (omega arith) (omega (arith, c.len.ensures, c.turns.stack.ok.0)) way c.in_ok-first-in-Ask.ensures.goes c.in_ok-first-in-Ask.ensures.safe in
     record {
-      way = rw c.in_ok-push-in-Ask-2.ensures.pushed (rw c.in-Ask-2.is at begun);
-      room = let k = c.turns.invariant.room in let m = c.in_ok-push-in-Ask-2.ensures.room in omega (arith, k, m);
+      way = rw c.in_ok-push-in-Ask-first.ensures.pushed (rw c.in-Ask-first.is at begun);
+      room = let k = c.turns.invariant.room in let m = c.in_ok-push-in-Ask-first.ensures.room in omega (arith, k, m);
     }
+
+pub returns-in_err-push-in-Ask-first-clause-lasts : goal.returns-in_err-push-in-Ask-first-clause-lasts
+returns-in_err-push-in-Ask-first-clause-lasts c =
+    lasts-on _ _ _ c.turns.invariant.way.lasts c.in_ok-first-in-Ask.ensures.safe.0
