@@ -18,7 +18,7 @@ use class_world::World;
 pub use descriptor::{bind_function, bind_native};
 pub use member::{member_get, member_set};
 pub use property::{property_get, property_set};
-use py_node::{Answer, DescriptorTask, OutOfMemory, PyObjectRef, PyTypeRef, Raised, Step};
+use py_node::{Answer, DescriptorTask, OutOfMemory, PyObjectRef, PyTypeRef, Raised, Step, caught};
 use row_kit::give::as_object;
 pub use setting::getset_set;
 pub use super_start::{bind_super, unbound_super};
@@ -69,7 +69,7 @@ pub fn resume(
     ensures safe { Leaves of_descriptor_kept world.old world.new result }
 {
     match kept {
-        DescriptorKept::Pass => Ok(Step::End(as_object(world, answer)?)),
+        DescriptorKept::Pass => Ok(Step::End(caught(as_object(world, answer))?)),
         DescriptorKept::AfterGet(class, func) => resume_class_method(world, class, func, answer),
         DescriptorKept::Done => Ok(Step::End(done(answer))),
         DescriptorKept::Binding(class, object) => {

@@ -2,6 +2,7 @@ pub mod Below
 pub mod Slots
 pub mod Natives
 pub mod Faults
+pub mod Stops
 pub mod Tree
 pub mod BuiltIns
 pub mod Replies

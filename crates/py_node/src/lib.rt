@@ -24,6 +24,7 @@ pub mod raised;
 pub mod refs;
 pub mod reply;
 pub mod slots;
+pub mod stop;
 pub mod task;
 
 pub use attr::Attr;
@@ -55,8 +56,9 @@ pub use raised::{Cause, Kind, Raised};
 pub use refs::{PyObjectRef, PyStrInterned, PyTypeRef};
 pub use reply::{BodyCall, Reply, ReplyAnswer};
 pub use slots::{Filling, Sort};
+pub use stop::{Stop, caught};
 pub use task::{
-    Answer, AttributeTask, CallTask, ClassTask, DescriptorTask, EvalTask, OperatorTask,
+    Answer, AttributeTask, CallTask, ClassTask, DescriptorTask, EvalTask, FuncArgs, OperatorTask,
     PyComparisonOp, PyMethod, PyNumberBinaryOp, PyNumberUnaryOp, PyResult, PySetterValue, Step,
     Task,
 };

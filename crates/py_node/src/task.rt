@@ -102,6 +102,15 @@ pub type Args = Vec<PyObjectRef>;
 /// Keyword arguments, in order.
 pub type Keywords = Vec<(PyStrInterned, PyObjectRef)>;
 
+/// What something is called with, as it is lent to what reads it.
+#[derive(Clone, Copy)]
+pub struct FuncArgs<'a> {
+    /// The positional arguments, in order.
+    pub args: &'a [PyObjectRef],
+    /// The keyword arguments, in order.
+    pub kw: &'a [(PyStrInterned, PyObjectRef)],
+}
+
 /// A task: something to do, whose row says how.
 #[derive(Drop)]
 pub enum Task {

@@ -9,7 +9,6 @@ ghost use Rattle.proto_attr.specs.ProtoDescr.Supers.{init_with, parts_of_body, s
 ghost use Rattle.proto_attr.specs.ProtoDescr.Rows.{Begins, EndsAs, Initialises, Resumes, bound_to, of_descriptor_kept, of_parts, parts_of};
 
 use crate::proto_descr::DescriptorKept;
-use crate::proto_descr::descriptor::Ended;
 use crate::proto_descr::super_start::Unbound;
 use class_world::{Fixed, World};
 use py_node::task::Args;
@@ -99,7 +98,7 @@ fn init_with(world: &mut World, s: PyObjectRef, parts: Unbound) -> Step<Descript
 }
 
 // It is set to this, if it is a `super`.
-fn set_super(world: &mut World, s: PyObjectRef, parts: PySuper) -> Ended
+fn set_super(world: &mut World, s: PyObjectRef, parts: PySuper) -> Result<Answer, Raised>
     requires object { Holds world.old (IsNode s) }
     requires parts { AllHold world.old (of_payload (payload.Super parts)) }
     ensures goes { EndsAs (λ t w. with_super w s parts.typ.0 (bound_to parts)) world.old world.new result }

@@ -10,10 +10,7 @@ use crate::class_make::ClassKept;
 use class_world::takes::{three, two};
 use class_world::{Fixed, World};
 use py_node::task::{Args, Keywords};
-use py_node::{
-    Answer, AttributeTask, Cause, OutOfMemory, PyObjectRef, PySetterValue, PyTypeRef, Raised, Step,
-    Task,
-};
+use py_node::{Answer, AttributeTask, Cause, FuncArgs, OutOfMemory, PyObjectRef, PySetterValue, PyTypeRef, Raised, Step, Task, caught};
 
 /// A class's attribute by its name, as classes read it.
 pub(crate) fn type_get_attribute(
@@ -30,9 +27,12 @@ pub(crate) fn type_get_attribute(
         Err(raised) => return Ok(Step::End(Err(raised))),
         Ok(class) => class,
     };
-    match two(&args, &kw) {
+    match two(FuncArgs {
+        args: &args,
+        kw: &kw,
+    }) {
         Err(raised) => Ok(Step::End(Err(raised))),
-        Ok((_, name)) => match world.name_in(name)? {
+        Ok((_, name)) => match caught(world.name_in(name))? {
             Err(raised) => Ok(Step::End(Err(raised))),
             Ok(name) => Ok(asked(AttributeTask::TypeGet(class, name))),
         },
@@ -54,9 +54,12 @@ pub(crate) fn type_set_attr(
         Err(raised) => return Ok(Step::End(Err(raised))),
         Ok(class) => class,
     };
-    match three(&args, &kw) {
+    match three(FuncArgs {
+        args: &args,
+        kw: &kw,
+    }) {
         Err(raised) => Ok(Step::End(Err(raised))),
-        Ok((_, name, value)) => match world.name_in(name)? {
+        Ok((_, name, value)) => match caught(world.name_in(name))? {
             Err(raised) => Ok(Step::End(Err(raised))),
             Ok(name) => {
                 let value = PySetterValue::Assign(value);
@@ -81,9 +84,12 @@ pub(crate) fn type_del_attr(
         Err(raised) => return Ok(Step::End(Err(raised))),
         Ok(class) => class,
     };
-    match two(&args, &kw) {
+    match two(FuncArgs {
+        args: &args,
+        kw: &kw,
+    }) {
         Err(raised) => Ok(Step::End(Err(raised))),
-        Ok((_, name)) => match world.name_in(name)? {
+        Ok((_, name)) => match caught(world.name_in(name))? {
             Err(raised) => Ok(Step::End(Err(raised))),
             Ok(name) => {
                 let task = AttributeTask::TypeSet(class, name, PySetterValue::Delete);
