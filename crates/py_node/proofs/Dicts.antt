@@ -17,7 +17,7 @@ module _ {K : Type 0} (test : K → Bool) where
       pick more true h q = cc
       pick more false h q = ap (λ b. b || list_any test ks) h ∙ more q
 
-  none-passes : (ks : List K) → position test ks ≡ None → list_any test ks ≡ false
+  pub none-passes : (ks : List K) → position test ks ≡ None → list_any test ks ≡ false
   none-passes ks q = none-from 0 ks (sym (position_from-zero test ks) ∙ q)
 
 -- a key that is not there goes last

@@ -9,3 +9,4 @@ pub mod Operators
 pub mod Faults
 pub mod BuiltInTable
 pub mod Dicts
+pub mod Keys

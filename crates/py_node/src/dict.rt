@@ -42,7 +42,7 @@ impl PyDict {
         ensures { result ≡ empty_dict }
     {
         PyDict {
-            index: KeyIndex::new(),
+            index: KeyIndex::new(alloc),
             entries: Vec::new(alloc),
         }
     }

@@ -10,6 +10,7 @@ pub mod clone;
 pub mod dict;
 pub mod entry;
 pub mod expr;
+mod few_keys;
 pub mod flags;
 mod key_index;
 pub mod known;
