@@ -1,7 +1,7 @@
 -- The words that the answers of this crate are written in: its lemmas and definitions, and those of crates below.
 pub use Rattle.class_table.specs.Refused.{refusal, refused_layout}
 pub use Rattle.class_world.proofs.Claims.{all-first, all-last, all-rest, each-pop, each-push}
-pub use Rattle.class_world.proofs.Growth.{lasts-on}
+pub use Rattle.class_world.proofs.Growth.{lasts-on, same-lasts}
 pub use Rattle.class_world.proofs.Leaves.{bodies-read, leaves-among, leaves-open}
 pub use Rattle.class_world.specs.Reading.{Reads, attribute_job, call_job, class_job, compare_job, descriptor_job, eval_job, object_job, operator_job, plain, protocol_job, task_of}
 pub use Rattle.plain_machine.specs.Answer.{NoUnits, Out, answer, closing}
@@ -16,7 +16,7 @@ pub use Rattle.vm_eval.proofs.Commands.{command-replied}
 pub use Rattle.vm_eval.proofs.Groups.{Any, On, attribute-group, begins-among, call-group, class-group, compare-group, descriptor-group, eval-group, items-group, iter-group, native-group, number-group, object-group, operator-group, resumes-among}
 pub use Rattle.vm_eval.proofs.OfNatives.Families.{calls-family, comparisons-family, details-family, family-begins, family-resumes, items-family, parts-family, plain-begins, repeats-family}
 pub use Rattle.vm_eval.proofs.Rests.{none-held, none-read, quiet-held, quiet-read, rest-grows, still-none}
-pub use Rattle.vm_eval.proofs.Turns.{no-frames, state-begin, state-end, state-first, state-limit, state-no_units, state-resume}
+pub use Rattle.vm_eval.proofs.Turns.{asked-begins, asked-limited, began, no-frames, over, resumed, spent, state-first}
 pub use Rattle.vm_eval.specs.Asks.{ending_in, unnoted}
 pub use Rattle.vm_eval.specs.Below.{AllHold, Ask, Claim, Grows, IsSome, ToAttribute, ToCall, ToClass, ToCompare, ToDescriptor, ToEval, ToObject, ToOperator, ToProtocol, asking_stands, attribute_say, attribute_stands, bodies_of, call_job_say, call_stands, class_job_say, class_stands, compare_job_say, compare_stands, compared_stands, descriptor_say, descriptor_stands, detail_stands, eval_say, eval_stands, item_stands, items_job_say, items_stands, iter_job_say, iter_stands, number_job_say, number_stands, numbers, object_job_say, object_stands, of_attribute_kept, of_call_kept, of_class_kept, of_compare_kept, of_descriptor_kept, of_eval_kept, of_items_kept, of_iter_kept, of_number_kept, of_object_kept, of_operator_kept, of_task, operator_say, operator_stands, parts_stands, refused_change, repeat_stands, told, tree_of}
 pub use Rattle.vm_eval.specs.OfNatives.Rows.{native_job, natives_stands, of_natives_kept}

@@ -1,7 +1,8 @@
 -- One turn of the machine keeps the outcome, whatever the rows are.
-use Rattle.vm_eval.proofs.Below.{ℕ, zero, suc, List, [], length, map, refl, sym, ap, ◌∙◌, arith, zero-add, true, false, cond, nat_lt, length-append, map-append, length-map, DepthLimit, Raised as Fault, Answer, Task, Step, Ask, End, PlainWorld, PlainTask, Ended, Answered, Told, Said, Asks, Ends, fault, Over, NoUnits, Outcome, Out, carry, asked, step, reach, Pending, reach-is, reach-alike, World, Reading, Reads, plain, task_of, ended_of, Steps, Kept, say, stands, Begins, Resumes, finish, unwind, coming, state}
-use Rattle.std.proofs.Common.{◌≡◌, ◌+◌, ◌∷◌, ◌++◌}
+use Rattle.vm_eval.proofs.Below.{ℕ, zero, suc, List, [], length, map, Ok, Err, IfOk, refl, subst, sym, ap, ◌∙◌, arith, zero-add, true, false, cond, nat_lt, lt-ltb, le-ltb, length-append, map-append, length-map, sum_by_push, DepthLimit, Raised as Fault, Answer, Task, Step, Ask, End, PlainWorld, PlainTask, Ended, Answered, Told, Said, Asks, Ends, fault, Over, NoUnits, Outcome, Out, carry, asked, step, reach, Pending, reach-is, reach-alike, World, Reading, Reads, plain, task_of, ended_of, Steps, of_task, LeavesOpen, each-pop, each-push, all-last, all-rest, lasts-on, Kept, say, stands, of_kept, bodies_in, Begins, Resumes, finish, unwind, coming, state, BeginsAt, IsOnItsWay, Reaches}
+use Rattle.std.proofs.Common.{◌≡◌, ◌+◌, ◌<◌, ◌≤◌, ◌∷◌, ◌++◌}
 use Rattle.std.specs.Prelude.{Result}
+use Rattle.vm_eval.specs.declared.stack.End.TheVariants as code
 
 unwind-append : (depth : ℕ) (ps : List (Pending PlainTask)) (p : Pending PlainTask) (o : Outcome) → unwind depth (ps ++ p ∷ []) o ≡ unwind depth ps (finish p (depth + length ps) o)
 unwind-append depth [] p o = let e : depth ≡ depth + 0 = omega arith in ap (λ n. finish p n o) e
@@ -59,25 +60,38 @@ module _ (t : Reading) (old : World) (stack : List Kept) (task : Task) (kept : K
       ∙ ap (λ ps. unwind 0 ps o) (sym (map-append (stands t) stack (kept ∷ [])))
       ∙ ap (λ n. unwind 0 (map (stands t) (stack ++ kept ∷ [])) (asked (reach say) (plain t old) (task_of t task) left n)) n
 
-  -- an asked task begins
-  pub state-begin : (new : World) (next : Step Kept) → nat_lt (length (stack ++ kept ∷ [])) 1000 ≡ true → Begins task old new next → Reads t new → state t new (stack ++ kept ∷ []) left next ≡ state t old stack (suc left) (Ask task kept)
+  -- an asked task begins above it
+  pub state-asked : (new : World) (next : Step Kept) (depth : ℕ) → depth ≡ suc (length stack) → BeginsAt depth task old new next → Reads t new → state t new (stack ++ kept ∷ []) left next ≡ state t old stack (suc left) (Ask task kept)
   unfolding state
-  state-begin new next low h reads =
-      let w = plain t old in
-      let n = length (stack ++ kept ∷ []) in
-      sym (pushed ∙ ap (unwind 0 (map (stands t) (stack ++ kept ∷ []))) (
-      ap (λ b. cond b (reach say w (task_of t task) [] left n) (Out w (Over (fault DepthLimit)) left)) low
-      ∙ reach-is say w (task_of t task) [] left n
-      ∙ step-coming t (task_of t task) [] (say w (task_of t task) []) next new left n (h t reads).1))
+  state-asked new next depth e h reads =
+      let n : depth ≡ length (stack ++ kept ∷ []) = omega (arith, e, length-append stack (kept ∷ [])) in
+      let b : BeginsAt (length (stack ++ kept ∷ [])) task old new next = subst (λ d. BeginsAt d task old new next) n h in
+      sym (pushed ∙ ap (unwind 0 (map (stands t) (stack ++ kept ∷ []))) ((b t reads).1 left))
+
+-- a task begins where a row asked it
+module _ (depth : ℕ) (task : Task) where
+  begins-at : (old new : World) (next : Step Kept) → nat_lt depth 1000 ≡ true → Begins task old new next → BeginsAt depth task old new next
+  begins-at old new next low h = λ t reads. (
+    (h t reads).0,
+    λ left.
+        let w = plain t old in
+        ap (λ b. cond b (reach say w (task_of t task) [] left depth) (Out w (Over (fault DepthLimit)) left)) low
+        ∙ reach-is say w (task_of t task) [] left depth
+        ∙ step-coming t (task_of t task) [] (say w (task_of t task) []) next new left depth (h t reads).1,
+  )
+
+  pub asked-begins : {E : Type 0} (old new : World) (o : Result (Step Kept) E) → depth < 1000 → IfOk o (λ next. Begins task old new next) → IfOk o (λ next. BeginsAt depth task old new next)
+  asked-begins old new (Ok next) below h = begins-at old new next (lt-ltb _ _ below) h
+  asked-begins old new (Err e) below h = tt
 
   -- or it stands too deep
-  pub state-limit : nat_lt (length (stack ++ kept ∷ [])) 1000 ≡ false → state t old (stack ++ kept ∷ []) left (End (fault DepthLimit)) ≡ state t old stack (suc left) (Ask task kept)
-  unfolding state
-  state-limit high =
-      let w = plain t old in
-      let n = length (stack ++ kept ∷ []) in
-      sym (pushed ∙ ap (unwind 0 (map (stands t) (stack ++ kept ∷ []))) (
-      ap (λ b. cond b (reach say w (task_of t task) [] left n) (Out w (Over (fault DepthLimit)) left)) high))
+  pub asked-limited : (w : World) → 1000 ≤ depth → BeginsAt depth task w w (End (fault DepthLimit))
+  asked-limited w above = λ t reads. (
+    reads,
+    λ left.
+        let now = plain t w in
+        ap (λ b. cond b (reach say now (task_of t task) [] left depth) (Out now (Over (fault DepthLimit)) left)) (le-ltb _ _ above),
+  )
 
 -- no unit is left
 pub state-no_units : (t : Reading) (w : World) (stack : List Kept) (task : Task) (kept : Kept) → Out (plain t w) NoUnits 0 ≡ state t w stack 0 (Ask task kept)
@@ -99,3 +113,39 @@ state-first t old new task left next h reads =
 pub no-frames : (stack : List Kept) → length stack ≡ 0 → stack ≡ []
 no-frames [] h = refl
 no-frames (kept ∷ stack) h = absurd (omega arith)
+
+-- the machine stays on its way
+module _ (task : Task) (first : World) (units : ℕ) where
+  -- where an answer goes to the frame on top
+  pub resumed : (w new : World) (rest : List Kept) (kept : Kept) (r : Result Answer Fault) (left : ℕ) (next : Step Kept) → IsOnItsWay task first units w (rest ++ kept ∷ []) left (End r) → Resumes kept r w new next → LeavesOpen of_kept bodies_in (bodies_in kept) w new (Ok next) → IsOnItsWay task first units new rest left next
+  resumed w new rest kept r left next way goes leaves = record {
+    outcome = λ t reads.
+        let o = way.outcome t (goes t reads).0 in
+        (o.0, state-resume t w new rest kept r left next goes reads ∙ o.1);
+    lasts = lasts-on first w new way.lasts leaves.0;
+    bodies = let b = way.bodies in let l = leaves.1.1 in let s = sum_by_push bodies_in rest kept in omega (arith, b, l, s);
+    frames = all-last w new leaves.0 _ (each-pop w of_kept rest kept way.frames).0;
+    claims = leaves.1.0;
+  }
+
+  -- where an asked task begins above the row's frame
+  pub began : (w new : World) (stack : List Kept) (asked : Task) (kept : Kept) (left rest depth : ℕ) (next : Step Kept) → left ≡ suc rest → depth ≡ suc (length stack) → IsOnItsWay task first units w stack left (Ask asked kept) → BeginsAt depth asked w new next → LeavesOpen of_kept bodies_in 0 w new (Ok next) → IsOnItsWay task first units new (stack ++ kept ∷ []) rest next
+  began w new stack asked kept left rest depth next more deep way goes leaves =
+      let on : IsOnItsWay task first units w stack (suc rest) (Ask asked kept) = subst (λ n. IsOnItsWay task first units w stack n (Ask asked kept)) more way in
+      record {
+        outcome = λ t reads.
+            let o = on.outcome t (goes t reads).0 in
+            (o.0, state-asked t w stack asked kept rest new next depth deep goes reads ∙ o.1);
+        lasts = lasts-on first w new on.lasts leaves.0;
+        bodies = let b = on.bodies in let l = leaves.1.1 in let s = sum_by_push bodies_in stack kept in omega (arith, b, l, s);
+        frames = all-last w new leaves.0 _ (each-push w of_kept stack kept on.frames (all-rest w (of_task asked) (of_kept kept) on.claims));
+        claims = leaves.1.0;
+      }
+
+  -- it has come to an end where no frame waits
+  pub over : (w : World) (r : Result Answer Fault) (left : ℕ) → IsOnItsWay task first units w [] left (End r) → Reaches task first units w (code.Over r)
+  over w r left way = λ t reads. let o = way.outcome t reads in (o.0, left, sym (state-end t w left r ∙ o.1))
+
+  -- or no unit is left
+  pub spent : (w : World) (stack : List Kept) (asked : Task) (kept : Kept) → IsOnItsWay task first units w stack 0 (Ask asked kept) → Reaches task first units w code.NoUnits
+  spent w stack asked kept way = λ t reads. let o = way.outcome t reads in (o.0, 0, sym (state-no_units t w stack asked kept ∙ o.1))

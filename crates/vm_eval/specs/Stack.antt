@@ -1,9 +1,7 @@
 -- What a stack of frames comes to, in the terms of `reach`.
-use Rattle.vm_eval.specs.Below.{ℕ, zero, suc, List, [], length, map, sum_by, Task, Step, Ask, End, PlainWorld, PlainTask, Answered, Ending, Over, NoUnits, Outcome, Out, carry, asked, reach, answer, Pending, World, Held, Reading, Reads, plain, task_of, ended_of, Claim, of_step, of_ended, left_open}
+use Rattle.vm_eval.specs.Below.{ℕ, zero, suc, List, [], length, map, sum_by, Task, Step, Ask, End, PlainWorld, PlainTask, Answered, Ending, Over, NoUnits, Outcome, Out, carry, asked, reach, answer, Pending, World, Held, Reading, Reads, plain, task_of, ended_of, Claim, AllHold, Lasts, of_each, of_step, of_ended, left_open}
 use Rattle.std.specs.Prelude.{◌≡◌, ◌+◌, ◌≤◌, ◌∷◌, ◌++◌}
 use Rattle.vm_eval.specs.declared.stack.Kept.{Kept}
-use Rattle.vm_eval.specs.declared.stack.Turn.{Turn}
-use Rattle.vm_eval.specs.declared.stack.Turn.TheVariants.{On, Finished, OutOfUnits}
 use Rattle.vm_eval.specs.declared.stack.End.{End as CodeEnd}
 use Rattle.vm_eval.specs.declared.stack.End.TheVariants as code
 use Rattle.vm_eval.specs.Say.{say, stands, of_kept, bodies_in}
@@ -23,25 +21,14 @@ coming t (End r) w left depth = Out w (Over (ended_of r)) left
 coming t (Ask task kept) w zero depth = Out w NoUnits zero
 coming t (Ask task kept) w (suc left) depth = finish (stands t kept) depth (asked (reach say) w (task_of t task) left (suc depth))
 
+-- the first step of a task that a row asked, at so great a depth: what is asked comes to the same
+abbrev pub BeginsAt : ℕ → Task → World → World → Step Kept → Type 0
+BeginsAt depth task old new step =
+    (t : Reading) → Reads t new → Reads t old × ((left : ℕ) → asked (reach say) (plain t old) (task_of t task) left depth ≡ coming t step (plain t new) left depth)
+
 -- the outcome that the machine is on its way to
 unfoldable pub state : Reading → World → List Kept → ℕ → Step Kept → Outcome
 state t w stack left step = unwind 0 (map (stands t) stack) (coming t step (plain t w) left (length stack))
-
-abbrev pub leads : Reading → World → List Kept → ℕ → Turn → Outcome
-leads t w stack left (On step) = state t w stack left step
-leads t w stack left (Finished r) = Out (plain t w) (Over (ended_of r)) left
-leads t w stack left OutOfUnits = Out (plain t w) NoUnits left
-
--- a turn keeps the outcome
-abbrev pub Keeps : World → List Kept → ℕ → Step Kept → World → List Kept → ℕ → Turn → Type 0
-Keeps old stack left step new stack' left' turn =
-    (t : Reading) → Reads t new → Reads t old × (leads t new stack' left' turn ≡ state t old stack left step)
-
--- the turns that are left, at most
-abbrev pub turns_left : ℕ → List Kept → Turn → ℕ
-turns_left left stack (On step) = suc (left + left + length stack)
-turns_left left stack (Finished r) = 0
-turns_left left stack OutOfUnits = 0
 
 -- how a command ended, in the terms of the plain machine
 abbrev pub ending_of : CodeEnd → Ending
@@ -58,20 +45,21 @@ abbrev pub Answers : Task → World → ℕ → World → CodeEnd → Type 0
 Answers task old units new end =
     (t : Reading) → Reads t new → Reads t old × (left : ℕ) × (answer say (plain t old) (task_of t task) units 0 ≡ Out (plain t new) (ending_of end) left)
 
-abbrev pub of_turn : Turn → List Claim
-of_turn (On step) = of_step of_kept step
-of_turn (Finished r) = of_ended r
-of_turn OutOfUnits = []
-
 abbrev pub of_end : CodeEnd → List Claim
 of_end (code.Over r) = of_ended r
 of_end code.NoUnits = []
 
--- so many bodies run that the task did not begin, and besides them those that are open in the frames and in the step. Where the units are used up, all run still
-abbrev pub RunsAbove : ℕ → Held → List Kept → Turn → Type 0
-RunsAbove below w stack (On step) = length w.scopes ≡ below + (sum_by bodies_in stack + left_open bodies_in step)
-RunsAbove below w stack (Finished r) = length w.scopes ≡ below
-RunsAbove below w stack OutOfUnits = below ≤ length w.scopes
+-- so many bodies run that the task did not begin, and besides them those that are open in the frames and in the step
+abbrev pub RunsAbove : ℕ → Held → List Kept → Step Kept → Type 0
+RunsAbove below w stack step = length w.scopes ≡ below + (sum_by bodies_in stack + left_open bodies_in step)
+
+-- the machine is on its way to what a task comes to that began in the first world and may use so many units
+pub record IsOnItsWay (task : Task) (first : World) (units : ℕ) (w : World) (stack : List Kept) (left : ℕ) (step : Step Kept) : Type 0 where
+  pub outcome : (t : Reading) → Reads t w → Reads t first × (state t w stack left step ≡ reach say (plain t first) (task_of t task) [] units 0)
+  pub lasts : Lasts first w
+  pub bodies : RunsAbove (length first.scopes) w stack step
+  pub frames : AllHold w (of_each of_kept stack)
+  pub claims : AllHold w (of_step of_kept step)
 
 -- as many bodies run as before
 abbrev pub AsDeep : Held → Held → Type 0

@@ -1,10 +1,10 @@
 //! The stack of frames: one turn at a time, until a task is answered or its units are used up.
 
-ghost use Rattle.vm_eval.specs.Below.{ℕ, [], IfOk, OnErr, OnOk, vec_capacity, AllHold, Lasts, of_each, of_task, of_protocol_task, of_ended, of_step, left_open, LeavesOpen, of_eval_kept, of_attribute_kept, of_descriptor_kept, of_call_kept, bodies_of, of_class_kept, of_operator_kept, of_compare_kept, of_number_kept, of_iter_kept, of_items_kept, of_object_kept};
-ghost use Rattle.std.specs.Prelude.{◌≡◌, ◌<◌, ◌≤◌, ◌∷◌, ◌++◌};
+ghost use Rattle.vm_eval.specs.Below.{[], IfOk, OnOk, vec_capacity, AllHold, Lasts, of_task, of_protocol_task, of_ended, of_step, left_open, LeavesOpen, of_eval_kept, of_attribute_kept, of_descriptor_kept, of_call_kept, bodies_of, of_class_kept, of_operator_kept, of_compare_kept, of_number_kept, of_iter_kept, of_items_kept, of_object_kept};
+ghost use Rattle.std.specs.Prelude.{◌≡◌, ◌≤◌, ◌∷◌, ◌++◌};
 ghost use Rattle.vm_eval.specs.OfNatives.Rows.{of_natives_kept};
 ghost use Rattle.vm_eval.specs.Say.{Begins, Resumes, step_among, of_kept, bodies_in};
-ghost use Rattle.vm_eval.specs.Stack.{Answers, Reaches, Keeps, RunsAbove, AsDeep, EndsDeep, turns_left, of_turn, of_end};
+ghost use Rattle.vm_eval.specs.Stack.{Answers, BeginsAt, Reaches, AsDeep, EndsDeep, of_end};
 
 use crate::look_ahead;
 use crate::natives::NativesKept;
@@ -95,6 +95,19 @@ fn begin(world: &mut World, task: Task) -> Result<Step<Kept>, OutOfMemory>
             let step = crate::natives::begin(world, entry, args, kw)?;
             Ok(of_native(step))
         }
+    }
+}
+
+// The first step of a task that a row asked, at so great a depth.
+fn begin_at(world: &mut World, depth: usize, task: Task) -> Result<Step<Kept>, OutOfMemory>
+    requires { AllHold world.old (of_task task) }
+    ensures goes { IfOk result (λ step. BeginsAt depth task world.old world.new step) }
+    ensures safe { LeavesOpen of_kept bodies_in 0 world.old world.new result }
+{
+    if depth < DEPTH {
+        begin(world, task)
+    } else {
+        Ok(Step::raise(Cause::DepthLimit))
     }
 }
 
@@ -327,58 +340,6 @@ fn of_native(step: Step<NativesKept>) -> Step<Kept>
     }
 }
 
-/// Where a turn of the machine leads.
-#[derive(Drop)]
-pub enum Turn {
-    On(Step<Kept>),
-    Finished(Result<Answer, Raised>),
-    OutOfUnits,
-}
-
-// One turn: an answer goes to the frame on top, or an asked task begins above it.
-fn take_turn(
-    world: &mut World,
-    stack: &mut Vec<Kept>,
-    left: &mut u64,
-    step: Step<Kept>,
-) -> Result<Turn, OutOfMemory>
-    requires stack { AllHold world.old (of_each of_kept stack.old.items) }
-    requires step { AllHold world.old (of_step of_kept step) }
-    ensures turned { IfOk result (λ turn.
-        Keeps world.old stack.old.items left.old step world.new stack.new.items left.new turn) }
-    ensures falls { IfOk result (λ turn.
-        turns_left left.new stack.new.items turn < turns_left left.old stack.old.items (Turn.On step)) }
-    ensures lasts { Lasts world.old world.new }
-    ensures bodies { IfOk result (λ turn. (n : ℕ) → RunsAbove n world.old stack.old.items (Turn.On step) →
-        RunsAbove n world.new stack.new.items turn) }
-    ensures stack { IfOk result (λ turn. AllHold world.new (of_each of_kept stack.new.items)) }
-    ensures holds { IfOk result (λ turn. AllHold world.new (of_turn turn)) }
-    ensures room { vec_capacity stack.old ≤ vec_capacity stack.new }
-{
-    match step {
-        Step::End(answer) => match stack.pop() {
-            None => Ok(Turn::Finished(answer)),
-            Some(kept) => {
-                let next = resume(world, kept, answer)?;
-                Ok(Turn::On(next))
-            }
-        },
-        Step::Ask(task, kept) => {
-            if *left == 0 {
-                return Ok(Turn::OutOfUnits);
-            }
-            *left -= 1;
-            push(stack, kept)?;
-            if stack.len() < DEPTH {
-                let next = begin(world, task)?;
-                Ok(Turn::On(next))
-            } else {
-                Ok(Turn::On(Step::raise(Cause::DepthLimit)))
-            }
-        }
-    }
-}
-
 // One more frame.
 fn push(stack: &mut Vec<Kept>, kept: Kept) -> Result<(), OutOfMemory>
     ensures pushed { OnOk result (stack.new.items ≡ stack.old.items ++ kept ∷ []) }
@@ -412,7 +373,8 @@ pub(crate) fn drive(
     }
 }
 
-// The turns of a task, on a stack that is empty.
+// The turns of a task, on a stack that is empty: an answer goes to the frame on top, and what a row asks begins above it. Where
+// that ends with its first step, the row goes on at once, and needs no frame.
 fn take_turns(
     world: &mut World,
     stack: &mut Vec<Kept>,
@@ -430,10 +392,25 @@ fn take_turns(
     let mut left = units;
     let mut step = begin(world, task)?;
     'turns: loop {
-        match take_turn(world, stack, &mut left, step)? {
-            Turn::On(next) => step = next,
-            Turn::Finished(answer) => return Ok(End::Over(answer)),
-            Turn::OutOfUnits => return Ok(End::NoUnits),
+        match step {
+            Step::End(answer) => match stack.pop() {
+                None => return Ok(End::Over(answer)),
+                Some(kept) => step = resume(world, kept, answer)?,
+            },
+            Step::Ask(asked, kept) => {
+                if left == 0 {
+                    return Ok(End::NoUnits);
+                }
+                left -= 1;
+                let first = begin_at(world, stack.len() + 1, asked)?;
+                match first {
+                    Step::End(answer) => step = resume(world, kept, answer)?,
+                    Step::Ask(next, above) => {
+                        push(stack, kept)?;
+                        step = Step::Ask(next, above);
+                    }
+                }
+            }
         }
     }
 }
