@@ -9,6 +9,7 @@ pub use Rattle.class_world.specs.Sound.{AllHold, AreNodes, Holding, Holds, IsNod
 pub use Rattle.native_containers.proofs.Below.{ANumber, AText, ATuple, ComparedKept, DoCollect, DoIndex, DoSpecial, End, Ends, Err, GetItem, Held, IfOk, IterEnd, MissingKey, NewBool, NewInt, NewStr, NewTuple, Next, Ok, PlainWorld, ReadObjects, Reading, Said, Some, Starts, ToAttribute, ToProtocol, Truth, Value, [], ap, append_assoc, arith, bindings, common_steps, compare_native_say, datum, datum_at, dict_changed, dict_filled, dict_updated, drop, ended_of, ends_none, entries_at, false, fault, fold, get_or, in_length, is_some, items_at, known_text, length, list_changed, most_items, names_set, nat_le, next_node, none, object_made, plain, pos, raised, ref, refl, remove, repr_text, slice_get, slice_range, slice_set, string_bytes, subst, suc, sym, take, take_all, the_int, the_str, value, with_node, ℕ, ◌∙◌}
 unfoldable pub use Rattle.native_containers.proofs.Below.{item_job_say}
 pub use Rattle.native_containers.proofs.Changed.{err-map, update-says}
+pub use Rattle.native_containers.proofs.Ends.{sorted-ends, sorted-ok, sorted-raised, stop-ends, then-ended}
 pub use Rattle.native_containers.proofs.Filled.{two-filled}
 pub use Rattle.native_containers.proofs.Loops.{keyword-holds}
 pub use Rattle.native_containers.proofs.NativeCompare.Begun.{begins-ok}
@@ -46,7 +47,6 @@ unfoldable pub use Rattle.py_node.specs.BuiltIns.{place_of}
 pub use Rattle.py_node.specs.Dicts.{PlainDict}
 pub use Rattle.py_node.specs.declared.protocol.ProtocolTask.TheVariants.{Collect, Index}
 pub use Rattle.py_node.specs.declared.task.Task.TheVariants.{Protocol}
-pub use Rattle.row_kit.proofs.ContainersEnds.{then-if}
 pub use Rattle.row_kit.proofs.ContainersPayloads.{no-entries, nodes-append}
 pub use Rattle.row_kit.specs.declared.take_containers.Kind.TheVariants.{Iterator, List}
 pub use Rattle.std.proofs.iter.TextItems.{spells}
@@ -55,6 +55,7 @@ pub use Rattle.std.proofs.lemmas.Iterator.{YieldsList, YieldsList-from_chars, Yi
 pub use Rattle.std.proofs.lemmas.Iterator.Adapters.{YieldsList-from_skip, option_map_id}
 pub use Rattle.std.proofs.lemmas.Iterator.Consumers.{nth_from_yields_List}
 pub use Rattle.std.proofs.lemmas.List.{length-set}
+pub use Rattle.std.proofs.lemmas.Result.{err_from_is_err_and}
 pub use Rattle.std.proofs.lemmas.Str.{Chars-Drains, encodes-chars}
 pub use Rattle.std.proofs.lemmas.Str.Pattern.{contains_text}
 pub use Rattle.std.specs.Int.{w128, w64}

@@ -3,10 +3,10 @@ use Rattle.native_containers.proofs.Changed.{long, short}
 use Rattle.native_containers.proofs.dict.put.Goals as goal
 
 pub returns-then-not-has_room-clause-ends : goal.returns-then-not-has_room-clause-ends
-returns-then-not-has_room-clause-ends c = λ t q.
+returns-then-not-has_room-clause-ends c = rw c.raise.ensures (λ t q.
     let u = plain t c.args.world.now in
     let es = with_entry u (entries_at u c.args.dict) (c.args.key, c.args.value) in
-    (q, c.in_default.ensures.taken t _ ∙ long u es (ends_none (with_entries u c.args.dict es)) (c.has_room.ensures t c.args.value ∙ c.if-not-has_room.true) ∙ ap (λ x. Ends u (Err x)) (sym c.new.ensures))
+    (q, c.in_default.ensures.taken t _ ∙ long u es (ends_none (with_entries u c.args.dict es)) (c.has_room.ensures t c.args.value ∙ c.if-not-has_room.true)))
 
 pub returns-clause-ends : goal.returns-clause-ends
 returns-clause-ends c = λ t q.
