@@ -1,13 +1,9 @@
 -- How natives end, by what was called before.
-use Rattle.native_containers.proofs.Below.{Result, Ok, Err, IfOk, subst, Raised as Fault, Answer, Ends, World, Reading, Reads, plain, EndsAs, Saying, then-ends}
+use Rattle.native_containers.proofs.Below.{Result, Ok, Err, IfOk, subst, Raised as Fault, Answer, World, Reading, Reads, plain, EndsAs, Saying, then-ends, Held, AllHold, of_ended}
 use Rattle.std.proofs.Common.{◌≡◌}
 use Rattle.py_node.specs.Stops.{Ended, IfRaised, sorted}
 use Rattle.py_node.specs.declared.stop.Stop.{Stop}
 use Rattle.py_node.specs.declared.stop.Stop.TheVariants as stop
-
--- a fault, in the world as it is
-pub fault-ends : (said : Saying) (w new : World) (x : Fault) → ((t : Reading) → said t (plain t w) ≡ Ends (plain t new) (Err x)) → ((t : Reading) → Reads t new → Reads t w) → EndsAs said w new (Err x)
-fault-ends said w new x says reads = λ t q. (reads t q, says t)
 
 -- what holds of an end holds of what was caught
 pub sorted-ends : {T : Type 0} (r : Result T Stop) (x : Result T Fault) (P : Result T Fault → Type 0) → Ok x ≡ sorted r → Ended r P → P x
@@ -37,3 +33,8 @@ pub then-ended : (said other : Saying) (w mid new : World) (r : Result Answer St
 then-ended said other w mid new (Ok x) says reads h = then-ends said other w mid new (Ok x) says reads h
 then-ended said other w mid new (Err (stop.Raised x)) says reads h = then-ends said other w mid new (Err x) says reads h
 then-ended said other w mid new (Err stop.OutOfMemory) says reads h = tt
+
+-- an end without a value names nothing
+pub stop-safe : (w : Held) (e : Stop) → Ended {Answer} (Err e) (λ r. AllHold w (of_ended r))
+stop-safe w (stop.Raised x) = tt
+stop-safe w stop.OutOfMemory = tt
