@@ -17,12 +17,6 @@ sorted-ok (Ok x) v P e h = let same : x ≡ v = cc in subst P same h
 sorted-ok (Err (stop.Raised f)) v P e h = cc
 sorted-ok (Err stop.OutOfMemory) v P e h = cc
 
--- what holds of a fault, where one was raised, holds of one that was caught
-pub sorted-raised : {T : Type 0} (r : Result T Stop) (x : Fault) (P : Fault → Type 0) → Ok (Err x) ≡ sorted r → IfRaised r P → P x
-sorted-raised (Ok v) x P e h = cc
-sorted-raised (Err (stop.Raised f)) x P e h = let same : f ≡ x = cc in subst P same h
-sorted-raised (Err stop.OutOfMemory) x P e h = cc
-
 -- what ends with the fault of what it called, if that raised one
 pub stop-ends : (U : Type 0) {T : Type 0} (e : Stop) (Q : Fault → Type 0) (P : Result T Fault → Type 0) → ((x : Fault) → Q x → P (Err x)) → IfRaised {U} (Err e) Q → Ended {T} (Err e) P
 stop-ends U (stop.Raised x) Q P f h = f x h

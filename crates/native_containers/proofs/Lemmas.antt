@@ -6,10 +6,10 @@ pub use Rattle.class_world.proofs.KeyEntries.{keys-can, pair-holds}
 pub use Rattle.class_world.proofs.Stored.{ok-map}
 pub use Rattle.class_world.specs.Keyed.{of_entries, of_keyed, of_pairs}
 pub use Rattle.class_world.specs.Sound.{AllHold, AreNodes, Holding, Holds, IsNode, of_payload}
-pub use Rattle.native_containers.proofs.Below.{ANumber, AText, ATuple, ComparedKept, DoCollect, DoIndex, DoSpecial, End, Ends, Err, GetItem, Held, IfOk, IterEnd, MissingKey, NewBool, NewInt, NewStr, NewTuple, Next, Ok, PlainWorld, ReadObjects, Reading, Said, Some, Starts, ToAttribute, ToProtocol, Truth, Value, [], ap, append_assoc, arith, bindings, common_steps, compare_native_say, datum, datum_at, dict_changed, dict_filled, dict_updated, drop, ended_of, ends_none, entries_at, false, fault, fold, get_or, in_length, is_some, items_at, known_text, length, list_changed, most_items, names_set, nat_le, next_node, none, object_made, plain, pos, raised, ref, refl, remove, repr_text, slice_get, slice_range, slice_set, string_bytes, subst, suc, sym, take, take_all, the_int, the_str, value, with_node, ℕ, ◌∙◌}
+pub use Rattle.native_containers.proofs.Below.{ANumber, AText, ATuple, ComparedKept, DoCollect, DoIndex, DoSpecial, End, Ends, Err, GetItem, Held, IfOk, IterEnd, MissingKey, NewBool, NewInt, NewStr, NewTuple, Next, Ok, ReadObjects, Reading, Some, Starts, ToAttribute, ToProtocol, Truth, Value, [], ap, append_assoc, arith, bindings, common_steps, compare_native_say, datum, datum_at, dict_filled, dict_updated, drop, ended_of, ends_none, entries_at, false, fault, fold, get_or, in_length, is_some, items_at, known_text, length, list_changed, most_items, names_set, nat_le, next_node, none, object_made, plain, pos, raised, ref, refl, remove, repr_text, slice_get, slice_range, slice_set, string_bytes, subst, suc, sym, take, take_all, the_int, the_str, value, with_node, ℕ, ◌∙◌}
 unfoldable pub use Rattle.native_containers.proofs.Below.{item_job_say}
-pub use Rattle.native_containers.proofs.Changed.{err-map, update-says}
-pub use Rattle.native_containers.proofs.Ends.{sorted-ends, sorted-ok, sorted-raised, stop-ends, stop-safe, then-ended}
+pub use Rattle.native_containers.proofs.Changed.{update-says}
+pub use Rattle.native_containers.proofs.Ends.{sorted-ends, sorted-ok, stop-ends, stop-safe, then-ended}
 pub use Rattle.native_containers.proofs.Filled.{two-filled}
 pub use Rattle.native_containers.proofs.Loops.{keyword-holds}
 pub use Rattle.native_containers.proofs.NativeCompare.Begun.{begins-ok}
