@@ -1,7 +1,7 @@
 //! The natives of dicts.
 
 ghost use Rattle.py_node.specs.Stops.{Ended};
-ghost use Rattle.native_containers.specs.Below.{[], is_some, IfOk, Dict, MissingKey, with_entry, Ends, fault, truth, value, of_args, of_ended, Reading, bindings, AllHold, AreNodes, Grows, Holding, Holds, IsNode, EndsAs, LeavesEnd, keys_of, list_made, pairs_made, values_of, entries_at};
+ghost use Rattle.native_containers.specs.Below.{[], is_some, Dict, MissingKey, with_entry, Ends, fault, truth, value, of_args, of_ended, Reading, bindings, AllHold, AreNodes, Grows, Holding, Holds, IsNode, EndsAs, LeavesEnd, keys_of, list_made, pairs_made, values_of, entries_at};
 ghost use Rattle.std.specs.Prelude.{◌≡◌};
 ghost use Rattle.native_containers.specs.Say.{counted, dict_changed, dict_say, dict_updated, ends_none, given_or, key_taken, list_iterated, value_under};
 ghost use Rattle.native_containers.specs.Take.{with_default, with_dict_and_key, with_key, with_lone, with_own, with_own_and, with_own_and_two};

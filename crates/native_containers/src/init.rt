@@ -1,7 +1,7 @@
 //! Dicts that get the entries of other dicts, and keywords.
 
 ghost use Rattle.py_node.specs.Stops.{Ended, IfRaised};
-ghost use Rattle.native_containers.specs.Below.{Err, IfErr, IfOk, Dict, PlainWorld, Said, Ends, of_args, Reading, Reads, bindings, plain, AllHold, Grows, Holding, Holds, IsName, IsNode, of_binding, of_each, EndsAs, LeavesEnd};
+ghost use Rattle.native_containers.specs.Below.{Err, IfOk, Dict, PlainWorld, Said, Ends, of_args, Reading, Reads, bindings, plain, AllHold, Grows, Holding, Holds, IsName, IsNode, of_binding, of_each, EndsAs, LeavesEnd};
 ghost use Rattle.std.specs.Prelude.{◌≡◌};
 ghost use Rattle.native_containers.specs.Say.{dict_filled, dict_updated, names_set};
 ghost use Rattle.native_containers.specs.Take.{with_own};

@@ -1,7 +1,7 @@
 //! The natives of lists.
 
 ghost use Rattle.py_node.specs.Stops.{Ended};
-ghost use Rattle.native_containers.specs.Below.{[], IfOk, Reading, bindings, AreNodes, Holding, Holds, IsNode, EndsAs, LeavesEnd, list_made, items_at};
+ghost use Rattle.native_containers.specs.Below.{[], Reading, bindings, AreNodes, Holding, Holds, IsNode, EndsAs, LeavesEnd, list_made, items_at};
 ghost use Rattle.std.specs.Prelude.{◌≡◌, ◌++◌, ◌∷◌};
 ghost use Rattle.py_node.specs.declared.built_in.BuiltIn.TheVariants.{List};
 ghost use Rattle.native_containers.specs.Say.{list_changed, list_say, with_joined};

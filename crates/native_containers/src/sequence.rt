@@ -1,7 +1,7 @@
 //! What tuples and lists do alike.
 
 ghost use Rattle.py_node.specs.Stops.{Ended, IfRaised};
-ghost use Rattle.native_containers.specs.Below.{Err, IfErr, IfOk, List, Said, Ends, PyObjectRef as Object, Reading, bindings, plain, of_ended, AllHold, AreNodes, Holds, EndsAs, LeavesEnd, iterator_made, items_at};
+ghost use Rattle.native_containers.specs.Below.{Err, IfOk, List, Said, Ends, PyObjectRef as Object, Reading, bindings, plain, of_ended, AllHold, AreNodes, Holds, EndsAs, LeavesEnd, iterator_made, items_at};
 ghost use Rattle.std.specs.Prelude.{◌≡◌, ◌++◌};
 ghost use Rattle.native_containers.specs.Say.{counted, with_joined};
 ghost use Rattle.native_containers.specs.Take.{with_lone};

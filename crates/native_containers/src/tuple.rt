@@ -1,7 +1,7 @@
 //! The natives of tuples.
 
 ghost use Rattle.py_node.specs.Stops.{Ended};
-ghost use Rattle.native_containers.specs.Below.{IfOk, Reading, bindings, AreNodes, Holds, EndsAs, LeavesEnd, tuple_made};
+ghost use Rattle.native_containers.specs.Below.{Reading, bindings, AreNodes, Holds, EndsAs, LeavesEnd, tuple_made};
 ghost use Rattle.std.specs.Prelude.{◌≡◌};
 ghost use Rattle.native_containers.specs.Say.{tuple_say, with_joined};
 ghost use Rattle.row_kit.specs.declared.take_containers.Kind.TheVariants as kind;

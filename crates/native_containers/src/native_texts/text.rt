@@ -1,7 +1,7 @@
 //! The natives of texts.
 
 ghost use Rattle.py_node.specs.Stops.{Ended};
-ghost use Rattle.native_containers.specs.Below.{IfOk, of_ended, Reading, bindings, plain, AllHold, AreNodes, Holds, IsNode, EndsAs, LeavesEnd, class_at};
+ghost use Rattle.native_containers.specs.Below.{of_ended, Reading, bindings, plain, AllHold, AreNodes, Holds, IsNode, EndsAs, LeavesEnd, class_at};
 ghost use Rattle.std.specs.Prelude.{◌≡◌};
 ghost use Rattle.native_containers.specs.NativeTexts.Say.{is_str, str_add, str_contains, str_hash, str_iter, str_len, str_repr, str_str, str_upper, text_say};
 
