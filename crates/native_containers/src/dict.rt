@@ -1,7 +1,7 @@
 //! The natives of dicts.
 
 ghost use Rattle.py_node.specs.Stops.{Ended};
-ghost use Rattle.native_containers.specs.Below.{[], is_some, IfOk, Dict, MissingKey, with_entry, Ends, fault, truth, value, of_args, of_ended, Reading, bindings, AllHold, AreNodes, Grows, Holding, Holds, IsNode, EndsAs, LeavesEnd, keys_of, list_made, pairs_made, values_of, entries_at};
+ghost use Rattle.native_containers.specs.Below.{[], is_some, Dict, MissingKey, with_entry, Ends, fault, truth, value, of_args, of_ended, Reading, bindings, AllHold, AreNodes, Grows, Holding, Holds, IsNode, EndsAs, LeavesEnd, keys_of, list_made, pairs_made, values_of, entries_at};
 ghost use Rattle.std.specs.Prelude.{◌≡◌};
 ghost use Rattle.native_containers.specs.Say.{counted, dict_changed, dict_say, dict_updated, ends_none, given_or, key_taken, list_iterated, value_under};
 ghost use Rattle.native_containers.specs.Take.{with_default, with_dict_and_key, with_key, with_lone, with_own, with_own_and, with_own_and_two};
@@ -25,7 +25,7 @@ pub fn dict_native(
     call: FuncArgs<'_>,
 ) -> Result<Answer, Stop>
     requires { AllHold world.old (of_args call.args.now call.kw.now) }
-    ensures ends { Ended result (EndsAs (λ t u. dict_say u native call.args.now (bindings t call.kw.now))
+    ensures ends { Ended result (EndsAs (λ t u. dict_say u native call.entry.args.now (bindings t call.entry.kw.now))
         world.old world.new) }
     ensures safe { LeavesEnd world.old world.new result }
 {
@@ -49,7 +49,7 @@ pub fn dict_native(
 // How many keys there are.
 fn length(world: &World, call: FuncArgs<'_>) -> Result<Answer, Raised>
     requires { Holds world.now (AreNodes call.args.now) }
-    ensures ends { EndsAs (λ t u. with_lone kind.Dict u call.args.now (bindings t call.kw.now)
+    ensures ends { EndsAs (λ t u. with_lone kind.Dict u call.entry.args.now (bindings t call.entry.kw.now)
         (λ d. counted u (entries_at u d))) world.now world.now result }
     ensures holds { AllHold world.now (of_ended result) }
 {
@@ -60,7 +60,7 @@ fn length(world: &World, call: FuncArgs<'_>) -> Result<Answer, Raised>
 // The value under a key, which must be there.
 fn get_item(world: &World, call: FuncArgs<'_>) -> Result<Answer, Raised>
     requires { Holds world.now (AreNodes call.args.now) }
-    ensures ends { EndsAs (λ t u. with_dict_and_key u call.args.now (bindings t call.kw.now)
+    ensures ends { EndsAs (λ t u. with_dict_and_key u call.entry.args.now (bindings t call.entry.kw.now)
         (λ d k. given_or u (value_under u d k) (fault MissingKey))) world.now world.now result }
     ensures holds { AllHold world.now (of_ended result) }
 {
@@ -74,7 +74,7 @@ fn get_item(world: &World, call: FuncArgs<'_>) -> Result<Answer, Raised>
 // Sets the value under a key.
 fn set_item(world: &mut World, call: FuncArgs<'_>) -> Result<Answer, Stop>
     requires { Holds world.old (AreNodes call.args.now) }
-    ensures ends { Ended result (EndsAs (λ t u. with_own_and_two kind.Dict u call.args.now (bindings t call.kw.now)
+    ensures ends { Ended result (EndsAs (λ t u. with_own_and_two kind.Dict u call.entry.args.now (bindings t call.entry.kw.now)
         (λ d k v. with_key u k (dict_changed u d (with_entry u (entries_at u d) (k, v)) ends_none)))
         world.old world.new) }
     ensures safe { LeavesEnd world.old world.new result }
@@ -112,7 +112,7 @@ fn put(
 // Takes a key out, which must be there.
 fn del_item(world: &mut World, call: FuncArgs<'_>) -> Result<Answer, Stop>
     requires { Holds world.old (AreNodes call.args.now) }
-    ensures ends { Ended result (EndsAs (λ t u. with_dict_and_key u call.args.now (bindings t call.kw.now)
+    ensures ends { Ended result (EndsAs (λ t u. with_dict_and_key u call.entry.args.now (bindings t call.entry.kw.now)
         (λ d k. key_taken u d k (value_under u d k))) world.old world.new) }
     ensures safe { LeavesEnd world.old world.new result }
 {
@@ -138,7 +138,7 @@ fn take_key(world: &mut World, dict: PyObjectRef, key: PyObjectRef) -> Result<An
 // Whether a key is there.
 fn contains(world: &World, call: FuncArgs<'_>) -> Result<Answer, Raised>
     requires { Holds world.now (AreNodes call.args.now) }
-    ensures ends { EndsAs (λ t u. with_dict_and_key u call.args.now (bindings t call.kw.now)
+    ensures ends { EndsAs (λ t u. with_dict_and_key u call.entry.args.now (bindings t call.entry.kw.now)
         (λ d k. Ends u (value (truth (is_some (value_under u d k)))))) world.now world.now result }
     ensures holds { AllHold world.now (of_ended result) }
 {
@@ -151,7 +151,7 @@ fn contains(world: &World, call: FuncArgs<'_>) -> Result<Answer, Raised>
 fn iter(world: &mut World, call: FuncArgs<'_>) -> Result<Answer, Stop>
     requires { Holds world.old (AreNodes call.args.now) }
     ensures ends { Ended result (EndsAs (λ t u.
-        with_lone kind.Dict u call.args.now (bindings t call.kw.now) (λ d. list_iterated u (keys_of (entries_at u d))))
+        with_lone kind.Dict u call.entry.args.now (bindings t call.entry.kw.now) (λ d. list_iterated u (keys_of (entries_at u d))))
         world.old world.new) }
     ensures safe { LeavesEnd world.old world.new result }
 {
@@ -176,7 +176,7 @@ fn iterate_keys(world: &mut World, dict: PyObjectRef) -> Result<Answer, Stop>
 fn keys(world: &mut World, call: FuncArgs<'_>) -> Result<Answer, Stop>
     requires { Holds world.old (AreNodes call.args.now) }
     ensures ends { Ended result (EndsAs (λ t u.
-        with_lone kind.Dict u call.args.now (bindings t call.kw.now) (λ d. list_made u (keys_of (entries_at u d))))
+        with_lone kind.Dict u call.entry.args.now (bindings t call.entry.kw.now) (λ d. list_made u (keys_of (entries_at u d))))
         world.old world.new) }
     ensures safe { LeavesEnd world.old world.new result }
 {
@@ -189,7 +189,7 @@ fn keys(world: &mut World, call: FuncArgs<'_>) -> Result<Answer, Stop>
 fn values(world: &mut World, call: FuncArgs<'_>) -> Result<Answer, Stop>
     requires { Holds world.old (AreNodes call.args.now) }
     ensures ends { Ended result (EndsAs (λ t u.
-        with_lone kind.Dict u call.args.now (bindings t call.kw.now) (λ d. list_made u (values_of (entries_at u d))))
+        with_lone kind.Dict u call.entry.args.now (bindings t call.entry.kw.now) (λ d. list_made u (values_of (entries_at u d))))
         world.old world.new) }
     ensures safe { LeavesEnd world.old world.new result }
 {
@@ -202,7 +202,7 @@ fn values(world: &mut World, call: FuncArgs<'_>) -> Result<Answer, Stop>
 fn items(world: &mut World, call: FuncArgs<'_>) -> Result<Answer, Stop>
     requires { Holds world.old (AreNodes call.args.now) }
     ensures ends { Ended result (EndsAs (λ t u.
-        with_lone kind.Dict u call.args.now (bindings t call.kw.now) (λ d. pairs_made u [] (entries_at u d)))
+        with_lone kind.Dict u call.entry.args.now (bindings t call.entry.kw.now) (λ d. pairs_made u [] (entries_at u d)))
         world.old world.new) }
     ensures safe { LeavesEnd world.old world.new result }
 {
@@ -213,7 +213,7 @@ fn items(world: &mut World, call: FuncArgs<'_>) -> Result<Answer, Stop>
 // The value under a key, or else what is given for that, or None.
 fn get(world: &World, call: FuncArgs<'_>) -> Result<Answer, Raised>
     requires { Holds world.now (AreNodes call.args.now) }
-    ensures ends { EndsAs (λ t u. with_own kind.Dict u call.args.now (λ d. with_default u call.args.now (bindings t call.kw.now)
+    ensures ends { EndsAs (λ t u. with_own kind.Dict u call.entry.args.now (λ d. with_default u call.entry.args.now (bindings t call.entry.kw.now)
         (λ k v. with_key u k (given_or u (value_under u d k) (value v))))) world.now world.now result }
     ensures holds { AllHold world.now (of_ended result) }
 {
@@ -229,11 +229,11 @@ fn get(world: &World, call: FuncArgs<'_>) -> Result<Answer, Raised>
 // Sets each key of another dict, with its value there.
 fn update(world: &mut World, call: FuncArgs<'_>) -> Result<Answer, Stop>
     requires { Holds world.old (AreNodes call.args.now) }
-    ensures ends { Ended result (EndsAs (λ t u. with_own_and kind.Dict u call.args.now (bindings t call.kw.now)
+    ensures ends { Ended result (EndsAs (λ t u. with_own_and kind.Dict u call.entry.args.now (bindings t call.entry.kw.now)
         (λ d o. dict_updated u d o ends_none)) world.old world.new) }
     ensures safe { LeavesEnd world.old world.new result }
 {
     let (dict, other) = own_and(world, Kind::Dict, call)?;
-    let () = update_from(world, dict, other)?;
+    update_from(world, dict, other)?;
     Ok(ends_none(world)?)
 }

@@ -1,7 +1,7 @@
 //! Dicts that get the entries of other dicts, and keywords.
 
 ghost use Rattle.py_node.specs.Stops.{Ended, IfRaised};
-ghost use Rattle.native_containers.specs.Below.{Err, IfErr, IfOk, Dict, PlainWorld, Said, Ends, of_args, Reading, Reads, bindings, plain, AllHold, Grows, Holding, Holds, IsName, IsNode, of_binding, of_each, EndsAs, LeavesEnd};
+ghost use Rattle.native_containers.specs.Below.{Err, IfOk, Dict, PlainWorld, Said, Ends, of_args, Reading, Reads, bindings, plain, AllHold, Grows, Holding, Holds, IsName, IsNode, of_binding, of_each, EndsAs, LeavesEnd};
 ghost use Rattle.std.specs.Prelude.{◌≡◌};
 ghost use Rattle.native_containers.specs.Say.{dict_filled, dict_updated, names_set};
 ghost use Rattle.native_containers.specs.Take.{with_own};
@@ -19,7 +19,7 @@ use row_kit::take_containers::Kind;
 pub(crate) fn init(world: &mut World, call: FuncArgs<'_>) -> Result<Answer, Stop>
     requires { AllHold world.old (of_args call.args.now call.kw.now) }
     ensures ends { Ended result (EndsAs (λ t u.
-        with_own kind.Dict u call.args.now (λ d. dict_filled u d call.args.now (bindings t call.kw.now)))
+        with_own kind.Dict u call.entry.args.now (λ d. dict_filled u d call.entry.args.now (bindings t call.entry.kw.now)))
         world.old world.new) }
     ensures safe { LeavesEnd world.old world.new result }
 {
@@ -32,7 +32,7 @@ fn fill(world: &mut World, dict: PyObjectRef, call: FuncArgs<'_>) -> Result<Answ
     requires dict { Holds world.old (IsNode dict) }
     requires holding { Holds world.old (Holding dict Dict) }
     requires args { AllHold world.old (of_args call.args.now call.kw.now) }
-    ensures ends { Ended result (EndsAs (λ t u. dict_filled u dict call.args.now (bindings t call.kw.now))
+    ensures ends { Ended result (EndsAs (λ t u. dict_filled u dict call.entry.args.now (bindings t call.entry.kw.now))
         world.old world.new) }
     ensures safe { LeavesEnd world.old world.new result }
 {

@@ -1,7 +1,7 @@
 //! The natives of lists.
 
 ghost use Rattle.py_node.specs.Stops.{Ended};
-ghost use Rattle.native_containers.specs.Below.{[], IfOk, Reading, bindings, AreNodes, Holding, Holds, IsNode, EndsAs, LeavesEnd, list_made, items_at};
+ghost use Rattle.native_containers.specs.Below.{[], Reading, bindings, AreNodes, Holding, Holds, IsNode, EndsAs, LeavesEnd, list_made, items_at};
 ghost use Rattle.std.specs.Prelude.{◌≡◌, ◌++◌, ◌∷◌};
 ghost use Rattle.py_node.specs.declared.built_in.BuiltIn.TheVariants.{List};
 ghost use Rattle.native_containers.specs.Say.{list_changed, list_say, with_joined};
@@ -24,7 +24,7 @@ pub fn list_native(
     call: FuncArgs<'_>,
 ) -> Result<Answer, Stop>
     requires { Holds world.old (AreNodes call.args.now) }
-    ensures ends { Ended result (EndsAs (λ t u. list_say u native call.args.now (bindings t call.kw.now))
+    ensures ends { Ended result (EndsAs (λ t u. list_say u native call.entry.args.now (bindings t call.entry.kw.now))
         world.old world.new) }
     ensures safe { LeavesEnd world.old world.new result }
 {
@@ -41,7 +41,7 @@ pub fn list_native(
 fn add(world: &mut World, call: FuncArgs<'_>) -> Result<Answer, Stop>
     requires { Holds world.old (AreNodes call.args.now) }
     ensures ends { Ended result (EndsAs (λ t u.
-        with_joined kind.List u call.args.now (bindings t call.kw.now) (list_made u)) world.old world.new) }
+        with_joined kind.List u call.entry.args.now (bindings t call.entry.kw.now) (list_made u)) world.old world.new) }
     ensures safe { LeavesEnd world.old world.new result }
 {
     let items = joined(world, Kind::List, call)?;
@@ -52,7 +52,7 @@ fn add(world: &mut World, call: FuncArgs<'_>) -> Result<Answer, Stop>
 fn append(world: &mut World, call: FuncArgs<'_>) -> Result<Answer, Stop>
     requires { Holds world.old (AreNodes call.args.now) }
     ensures ends { Ended result (EndsAs (λ t u.
-        with_own_and kind.List u call.args.now (bindings t call.kw.now)
+        with_own_and kind.List u call.entry.args.now (bindings t call.entry.kw.now)
         (λ o a. list_changed u o (items_at u o ++ a ∷ []))) world.old world.new) }
     ensures safe { LeavesEnd world.old world.new result }
 {

@@ -1,7 +1,7 @@
 //! What tuples and lists do alike.
 
 ghost use Rattle.py_node.specs.Stops.{Ended, IfRaised};
-ghost use Rattle.native_containers.specs.Below.{Err, IfErr, IfOk, List, Said, Ends, PyObjectRef as Object, Reading, bindings, plain, of_ended, AllHold, AreNodes, Holds, EndsAs, LeavesEnd, iterator_made, items_at};
+ghost use Rattle.native_containers.specs.Below.{Err, IfOk, List, Said, Ends, PyObjectRef as Object, Reading, bindings, plain, of_ended, AllHold, AreNodes, Holds, EndsAs, LeavesEnd, iterator_made, items_at};
 ghost use Rattle.std.specs.Prelude.{◌≡◌, ◌++◌};
 ghost use Rattle.native_containers.specs.Say.{counted, with_joined};
 ghost use Rattle.native_containers.specs.Take.{with_lone};
@@ -18,7 +18,7 @@ use std::alloc::Global;
 /// How many items a tuple or a list has.
 pub(crate) fn length(world: &World, kind: Kind, call: FuncArgs<'_>) -> Result<Answer, Raised>
     requires { Holds world.now (AreNodes call.args.now) }
-    ensures ends { EndsAs (λ t u. with_lone kind u call.args.now (bindings t call.kw.now)
+    ensures ends { EndsAs (λ t u. with_lone kind u call.entry.args.now (bindings t call.entry.kw.now)
         (λ o. counted u (items_at u o))) world.now world.now result }
     ensures holds { AllHold world.now (of_ended result) }
 {
@@ -30,7 +30,7 @@ pub(crate) fn length(world: &World, kind: Kind, call: FuncArgs<'_>) -> Result<An
 pub(crate) fn iter(world: &mut World, kind: Kind, call: FuncArgs<'_>) -> Result<Answer, Stop>
     requires { Holds world.old (AreNodes call.args.now) }
     ensures ends { Ended result (EndsAs (λ t u.
-        with_lone kind u call.args.now (bindings t call.kw.now) (iterator_made u)) world.old world.new) }
+        with_lone kind u call.entry.args.now (bindings t call.entry.kw.now) (iterator_made u)) world.old world.new) }
     ensures safe { LeavesEnd world.old world.new result }
 {
     let object = lone(world, kind, call)?;
@@ -41,9 +41,9 @@ pub(crate) fn iter(world: &mut World, kind: Kind, call: FuncArgs<'_>) -> Result<
 pub(crate) fn joined(world: &World, kind: Kind, call: FuncArgs<'_>) -> Result<Args, Stop>
     requires { Holds world.now (AreNodes call.args.now) }
     ensures given { IfOk result (λ rs. (t : Reading) (go : List Object → Said) →
-        with_joined kind (plain t world.now) call.args.now (bindings t call.kw.now) go ≡ go rs.items) }
+        with_joined kind (plain t world.now) call.entry.args.now (bindings t call.entry.kw.now) go ≡ go rs.items) }
     ensures refused { IfRaised result (λ x. (t : Reading) (go : List Object → Said) →
-        with_joined kind (plain t world.now) call.args.now (bindings t call.kw.now) go ≡ Ends (plain t world.now) (Err x)) }
+        with_joined kind (plain t world.now) call.entry.args.now (bindings t call.entry.kw.now) go ≡ Ends (plain t world.now) (Err x)) }
     ensures holds { IfOk result (λ rs. Holds world.now (AreNodes rs.items)) }
 {
     let (first, second) = own_and(world, kind, call)?;

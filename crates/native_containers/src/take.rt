@@ -47,9 +47,9 @@ pub fn kind_refusal(world: &World, kind: Kind, object: PyObjectRef) -> Option<Ra
 pub fn lone(world: &World, kind: Kind, call: FuncArgs<'_>) -> Result<PyObjectRef, Raised>
     requires { Holds world.now (AreNodes call.args.now) }
     ensures given { IfOk result (λ o. (t : Reading) (go : Object → Said) →
-        with_lone kind (plain t world.now) call.args.now (bindings t call.kw.now) go ≡ go o) }
+        with_lone kind (plain t world.now) call.entry.args.now (bindings t call.entry.kw.now) go ≡ go o) }
     ensures refused { IfErr result (λ x. (t : Reading) (go : Object → Said) →
-        with_lone kind (plain t world.now) call.args.now (bindings t call.kw.now) go ≡ Ends (plain t world.now) (Err x)) }
+        with_lone kind (plain t world.now) call.entry.args.now (bindings t call.entry.kw.now) go ≡ Ends (plain t world.now) (Err x)) }
     ensures node { IfOk result (λ o. Holds world.now (IsNode o)) }
     ensures holding { IfOk result (λ o. Holds world.now (Holding o (home_of_kind kind))) }
 {
@@ -66,9 +66,9 @@ pub fn own_and(
 ) -> Result<(PyObjectRef, PyObjectRef), Raised>
     requires { Holds world.now (AreNodes call.args.now) }
     ensures given { IfOk result (λ p. (t : Reading) (go : Object → Object → Said) →
-        with_own_and kind (plain t world.now) call.args.now (bindings t call.kw.now) go ≡ go p.0 p.1) }
+        with_own_and kind (plain t world.now) call.entry.args.now (bindings t call.entry.kw.now) go ≡ go p.0 p.1) }
     ensures refused { IfErr result (λ x. (t : Reading) (go : Object → Object → Said) →
-        with_own_and kind (plain t world.now) call.args.now (bindings t call.kw.now) go ≡ Ends (plain t world.now) (Err x)) }
+        with_own_and kind (plain t world.now) call.entry.args.now (bindings t call.entry.kw.now) go ≡ Ends (plain t world.now) (Err x)) }
     ensures first { IfOk result (λ p. Holds world.now (IsNode p.0)) }
     ensures second { IfOk result (λ p. Holds world.now (IsNode p.1)) }
     ensures holding { IfOk result (λ p. Holds world.now (Holding p.0 (home_of_kind kind))) }
@@ -86,9 +86,9 @@ pub fn own_and_two(
 ) -> Result<(PyObjectRef, PyObjectRef, PyObjectRef), Raised>
     requires { Holds world.now (AreNodes call.args.now) }
     ensures given { IfOk result (λ p. (t : Reading) (go : Object → Object → Object → Said) →
-        with_own_and_two kind (plain t world.now) call.args.now (bindings t call.kw.now) go ≡ go p.0 p.1 p.2) }
+        with_own_and_two kind (plain t world.now) call.entry.args.now (bindings t call.entry.kw.now) go ≡ go p.0 p.1 p.2) }
     ensures refused { IfErr result (λ x. (t : Reading) (go : Object → Object → Object → Said) →
-        with_own_and_two kind (plain t world.now) call.args.now (bindings t call.kw.now) go ≡
+        with_own_and_two kind (plain t world.now) call.entry.args.now (bindings t call.entry.kw.now) go ≡
         Ends (plain t world.now) (Err x)) }
     ensures first { IfOk result (λ p. Holds world.now (IsNode p.0)) }
     ensures second { IfOk result (λ p. Holds world.now (IsNode p.1)) }
@@ -119,9 +119,9 @@ pub fn key_refusal(world: &World, key: PyObjectRef) -> Option<Raised>
 pub fn dict_and_key(world: &World, call: FuncArgs<'_>) -> Result<(PyObjectRef, PyObjectRef), Raised>
     requires { Holds world.now (AreNodes call.args.now) }
     ensures given { IfOk result (λ p. (t : Reading) (go : Object → Object → Said) →
-        with_dict_and_key (plain t world.now) call.args.now (bindings t call.kw.now) go ≡ go p.0 p.1) }
+        with_dict_and_key (plain t world.now) call.entry.args.now (bindings t call.entry.kw.now) go ≡ go p.0 p.1) }
     ensures refused { IfErr result (λ x. (t : Reading) (go : Object → Object → Said) →
-        with_dict_and_key (plain t world.now) call.args.now (bindings t call.kw.now) go ≡ Ends (plain t world.now) (Err x)) }
+        with_dict_and_key (plain t world.now) call.entry.args.now (bindings t call.entry.kw.now) go ≡ Ends (plain t world.now) (Err x)) }
     ensures dict { IfOk result (λ p. Holds world.now (IsNode p.0)) }
     ensures key { IfOk result (λ p. Holds world.now (IsNode p.1)) }
     ensures holding { IfOk result (λ p. Holds world.now (Holding p.0 Dict)) }
@@ -137,9 +137,9 @@ pub fn dict_and_key(world: &World, call: FuncArgs<'_>) -> Result<(PyObjectRef, P
 pub fn with_default(world: &World, call: FuncArgs<'_>) -> Result<(PyObjectRef, PyObjectRef), Raised>
     requires { Holds world.now (AreNodes call.args.now) }
     ensures given { IfOk result (λ p. (t : Reading) (go : Object → Object → Said) →
-        with_default (plain t world.now) call.args.now (bindings t call.kw.now) go ≡ go p.0 p.1) }
+        with_default (plain t world.now) call.entry.args.now (bindings t call.entry.kw.now) go ≡ go p.0 p.1) }
     ensures refused { IfErr result (λ x. (t : Reading) (go : Object → Object → Said) →
-        with_default (plain t world.now) call.args.now (bindings t call.kw.now) go ≡ Ends (plain t world.now) (Err x)) }
+        with_default (plain t world.now) call.entry.args.now (bindings t call.entry.kw.now) go ≡ Ends (plain t world.now) (Err x)) }
     ensures key { IfOk result (λ p. Holds world.now (IsNode p.0)) }
     ensures other { IfOk result (λ p. Holds world.now (IsNode p.1)) }
 {

@@ -1,7 +1,7 @@
 //! The natives of tuples.
 
 ghost use Rattle.py_node.specs.Stops.{Ended};
-ghost use Rattle.native_containers.specs.Below.{IfOk, Reading, bindings, AreNodes, Holds, EndsAs, LeavesEnd, tuple_made};
+ghost use Rattle.native_containers.specs.Below.{Reading, bindings, AreNodes, Holds, EndsAs, LeavesEnd, tuple_made};
 ghost use Rattle.std.specs.Prelude.{◌≡◌};
 ghost use Rattle.native_containers.specs.Say.{tuple_say, with_joined};
 ghost use Rattle.row_kit.specs.declared.take_containers.Kind.TheVariants as kind;
@@ -19,7 +19,7 @@ pub fn tuple_native(
     call: FuncArgs<'_>,
 ) -> Result<Answer, Stop>
     requires { Holds world.old (AreNodes call.args.now) }
-    ensures ends { Ended result (EndsAs (λ t u. tuple_say u native call.args.now (bindings t call.kw.now))
+    ensures ends { Ended result (EndsAs (λ t u. tuple_say u native call.entry.args.now (bindings t call.entry.kw.now))
         world.old world.new) }
     ensures safe { LeavesEnd world.old world.new result }
 {
@@ -35,7 +35,7 @@ pub fn tuple_native(
 fn add(world: &mut World, call: FuncArgs<'_>) -> Result<Answer, Stop>
     requires { Holds world.old (AreNodes call.args.now) }
     ensures ends { Ended result (EndsAs (λ t u.
-        with_joined kind.Tuple u call.args.now (bindings t call.kw.now) (tuple_made u)) world.old world.new) }
+        with_joined kind.Tuple u call.entry.args.now (bindings t call.entry.kw.now) (tuple_made u)) world.old world.new) }
     ensures safe { LeavesEnd world.old world.new result }
 {
     let items = joined(world, Kind::Tuple, call)?;

@@ -22,7 +22,7 @@ pub(crate) fn dicts(
 ) -> Result<Step<ComparedKept>, OutOfMemory>
     requires { Holds world.now (AreNodes call.args.now) }
     ensures goes { IfOk result (λ step. Compares native
-        (λ t u. dicts_by u native call.args.now (bindings t call.kw.now)) world.now step) }
+        (λ t u. dicts_by u native call.entry.args.now (bindings t call.entry.kw.now)) world.now step) }
     ensures safe { IfOk result (λ step. AllHold world.now (of_step of_compared_kept step)) }
 {
     match both(world, Kind::Dict, call) {

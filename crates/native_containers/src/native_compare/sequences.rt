@@ -22,7 +22,7 @@ pub(crate) fn sequences(
 ) -> Result<Step<ComparedKept>, OutOfMemory>
     requires { Holds world.now (AreNodes call.args.now) }
     ensures goes { IfOk result (λ step. Compares native
-        (λ t u. sequences_by kind u native call.args.now (bindings t call.kw.now)) world.now step) }
+        (λ t u. sequences_by kind u native call.entry.args.now (bindings t call.entry.kw.now)) world.now step) }
     ensures safe { IfOk result (λ step. AllHold world.now (of_step of_compared_kept step)) }
 {
     match both(world, kind, call) {
@@ -43,9 +43,9 @@ pub(crate) fn both(
 ) -> Result<(PyObjectRef, PyObjectRef), Result<Answer, Raised>>
     requires { Holds world.now (AreNodes call.args.now) }
     ensures given { IfOk result (λ p. (t : Reading) (go : Object → Object → Said) →
-        with_both kind (plain t world.now) call.args.now (bindings t call.kw.now) go ≡ go p.0 p.1) }
+        with_both kind (plain t world.now) call.entry.args.now (bindings t call.entry.kw.now) go ≡ go p.0 p.1) }
     ensures ended { IfErr result (λ r. (t : Reading) (go : Object → Object → Said) →
-        with_both kind (plain t world.now) call.args.now (bindings t call.kw.now) go ≡
+        with_both kind (plain t world.now) call.entry.args.now (bindings t call.entry.kw.now) go ≡
         Ends (plain t world.now) (ended_of r)) }
     ensures first { IfOk result (λ p. Holds world.now (IsNode p.0)) }
     ensures second { IfOk result (λ p. Holds world.now (IsNode p.1)) }

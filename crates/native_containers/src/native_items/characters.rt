@@ -27,7 +27,7 @@ pub(crate) fn get_character(
     call: FuncArgs<'_>,
 ) -> Result<Step<ItemKept>, OutOfMemory>
     requires { Holds world.old (AreNodes call.args.now) }
-    ensures goes { IfOk result (λ step. Enters (OfStr GetItem) call.args.now call.kw.now world.old world.new step) }
+    ensures goes { IfOk result (λ step. Enters (OfStr GetItem) call.entry.args.now call.entry.kw.now world.old world.new step) }
     ensures safe { Leaves of_item_kept world.old world.new result }
 {
     match text_and(world, call) {

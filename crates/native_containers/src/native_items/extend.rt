@@ -23,7 +23,7 @@ use row_kit::take_containers::{Kind, items};
 /// A list gets the items of an iteration after its own, and is the answer.
 pub(crate) fn extend_list(world: &World, call: FuncArgs<'_>) -> Result<Step<ItemKept>, OutOfMemory>
     requires { Holds world.now (AreNodes call.args.now) }
-    ensures goes { IfOk result (λ step. Enters (OfList InplaceAdd) call.args.now call.kw.now world.now world.now step) }
+    ensures goes { IfOk result (λ step. Enters (OfList InplaceAdd) call.entry.args.now call.entry.kw.now world.now world.now step) }
     ensures safe { Leaves of_item_kept world.now world.now result }
 {
     match own_and(world, Kind::List, call) {

@@ -43,7 +43,7 @@ pub(crate) fn get_item(
     call: FuncArgs<'_>,
 ) -> Result<Step<ItemKept>, OutOfMemory>
     requires { Holds world.old (AreNodes call.args.now) }
-    ensures goes { IfOk result (λ step. Enters (getter_of sequence) call.args.now call.kw.now world.old world.new step) }
+    ensures goes { IfOk result (λ step. Enters (getter_of sequence) call.entry.args.now call.entry.kw.now world.old world.new step) }
     ensures safe { Leaves of_item_kept world.old world.new result }
 {
     match own_and(world, kind_of(sequence), call) {

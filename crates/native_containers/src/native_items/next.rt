@@ -30,7 +30,7 @@ pub(crate) fn next_item(
     call: FuncArgs<'_>,
 ) -> Result<Step<ItemKept>, OutOfMemory>
     requires { Holds world.old (AreNodes call.args.now) }
-    ensures goes { IfOk result (λ step. Enters (OfIterator Next) call.args.now call.kw.now world.old world.new step) }
+    ensures goes { IfOk result (λ step. Enters (OfIterator Next) call.entry.args.now call.entry.kw.now world.old world.new step) }
     ensures safe { Leaves of_item_kept world.old world.new result }
 {
     match lone(world, Kind::Iterator, call) {

@@ -22,7 +22,7 @@ pub(crate) fn contains(
     call: FuncArgs<'_>,
 ) -> Result<Step<ItemKept>, OutOfMemory>
     requires { Holds world.now (AreNodes call.args.now) }
-    ensures goes { IfOk result (λ step. Enters (searcher_of sequence) call.args.now call.kw.now world.now world.now step) }
+    ensures goes { IfOk result (λ step. Enters (searcher_of sequence) call.entry.args.now call.entry.kw.now world.now world.now step) }
     ensures safe { Leaves of_item_kept world.now world.now result }
 {
     match own_and(world, kind_of(sequence), call) {

@@ -25,7 +25,7 @@ use row_kit::take_containers::{Kind, items};
 /// An item of a list is set, or a part of it to the items of an iteration.
 pub(crate) fn set_item(world: &World, call: FuncArgs<'_>) -> Result<Step<ItemKept>, OutOfMemory>
     requires { Holds world.now (AreNodes call.args.now) }
-    ensures goes { IfOk result (λ step. Enters (OfList SetItem) call.args.now call.kw.now world.now world.now step) }
+    ensures goes { IfOk result (λ step. Enters (OfList SetItem) call.entry.args.now call.entry.kw.now world.now world.now step) }
     ensures safe { Leaves of_item_kept world.now world.now result }
 {
     match own_and_two(world, Kind::List, call) {

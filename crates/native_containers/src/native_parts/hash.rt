@@ -25,7 +25,7 @@ pub struct Hashing {
 pub(crate) fn begin_hash(world: &World, call: FuncArgs<'_>) -> Result<Step<PartsKept>, OutOfMemory>
     requires { Holds world.now (AreNodes call.args.now) }
     ensures goes { IfOk result (λ step.
-        Starts (OfTuple tuple.Hash) call.args.now call.kw.now world.now world.now step) }
+        Starts (OfTuple tuple.Hash) call.entry.args.now call.entry.kw.now world.now world.now step) }
     ensures safe { Leaves of_parts_kept world.now world.now result }
 {
     match lone(world, Container::Tuple, call) {

@@ -24,7 +24,7 @@ pub(crate) fn begin_str(
     call: FuncArgs<'_>,
 ) -> Result<Step<PartsKept>, OutOfMemory>
     requires { Holds world.old (AreNodes call.args.now) }
-    ensures goes { IfOk result (λ step. Starts (NewOf built_in.Str) call.args.now call.kw.now world.old world.new step) }
+    ensures goes { IfOk result (λ step. Starts (NewOf built_in.Str) call.entry.args.now call.entry.kw.now world.old world.new step) }
     ensures safe { Leaves of_parts_kept world.old world.new result }
 {
     let class = match heir(world, BuiltIn::Str, call.args) {
@@ -72,7 +72,7 @@ pub(crate) fn begin_tuple(
     call: FuncArgs<'_>,
 ) -> Result<Step<PartsKept>, OutOfMemory>
     requires { Holds world.old (AreNodes call.args.now) }
-    ensures goes { IfOk result (λ step. Starts (NewOf built_in.Tuple) call.args.now call.kw.now world.old world.new step) }
+    ensures goes { IfOk result (λ step. Starts (NewOf built_in.Tuple) call.entry.args.now call.entry.kw.now world.old world.new step) }
     ensures safe { Leaves of_parts_kept world.old world.new result }
 {
     let class = match heir(world, BuiltIn::Tuple, call.args) {
@@ -116,7 +116,7 @@ pub(crate) fn begin_list(
     call: FuncArgs<'_>,
 ) -> Result<Step<PartsKept>, OutOfMemory>
     requires { Holds world.old (AreNodes call.args.now) }
-    ensures goes { IfOk result (λ step. Starts (OfList list.Init) call.args.now call.kw.now world.old world.new step) }
+    ensures goes { IfOk result (λ step. Starts (OfList list.Init) call.entry.args.now call.entry.kw.now world.old world.new step) }
     ensures safe { Leaves of_parts_kept world.old world.new result }
 {
     let list = match own_list(world, call.args) {

@@ -21,7 +21,7 @@ pub(crate) fn begin_int(
     call: FuncArgs<'_>,
 ) -> Result<Step<PartsKept>, OutOfMemory>
     requires { Holds world.old (AreNodes call.args.now) }
-    ensures goes { IfOk result (λ step. Starts (NewOf built_in.Int) call.args.now call.kw.now world.old world.new step) }
+    ensures goes { IfOk result (λ step. Starts (NewOf built_in.Int) call.entry.args.now call.entry.kw.now world.old world.new step) }
     ensures safe { Leaves of_parts_kept world.old world.new result }
 {
     let class = match heir(world, BuiltIn::Int, call.args) {
@@ -69,7 +69,7 @@ pub(crate) fn int_made(
 /// A truth value is that of an object, or False.
 pub(crate) fn begin_bool(world: &World, call: FuncArgs<'_>) -> Step<PartsKept>
     requires { Holds world.now (AreNodes call.args.now) }
-    ensures goes { Starts (NewOf built_in.Bool) call.args.now call.kw.now world.now world.now result }
+    ensures goes { Starts (NewOf built_in.Bool) call.entry.args.now call.entry.kw.now world.now world.now result }
     ensures safe { AllHold world.now (of_step of_parts_kept result) }
 {
     if let Err(raised) = heir(world, BuiltIn::Bool, call.args) {

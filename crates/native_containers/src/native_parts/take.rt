@@ -45,9 +45,9 @@ pub(crate) fn lone(
 ) -> Result<PyObjectRef, Raised>
     requires { Holds world.now (AreNodes call.args.now) }
     ensures given { IfOk result (λ o. (t : Reading) (go : Object → Said) →
-        with_lone (kind_of container) (plain t world.now) call.args.now (bindings t call.kw.now) go ≡ go o) }
+        with_lone (kind_of container) (plain t world.now) call.entry.args.now (bindings t call.entry.kw.now) go ≡ go o) }
     ensures refused { IfErr result (λ x. (t : Reading) (go : Object → Said) →
-        with_lone (kind_of container) (plain t world.now) call.args.now (bindings t call.kw.now) go ≡
+        with_lone (kind_of container) (plain t world.now) call.entry.args.now (bindings t call.entry.kw.now) go ≡
         Ends (plain t world.now) (Err x)) }
     ensures node { IfOk result (λ o. Holds world.now (IsNode o)) }
 {
@@ -83,10 +83,10 @@ pub(crate) fn own_list(world: &World, args: &[PyObjectRef]) -> Result<PyObjectRe
 /// The argument after the first, if there is one, or why the arguments are refused.
 pub(crate) fn one_at_most(call: FuncArgs<'_>) -> Result<Option<PyObjectRef>, Raised>
     ensures given { IfOk result (λ o. (t : Reading) (w : PlainWorld) (without : Said) (go : Object → Said) →
-        with_one_at_most w call.args.now (bindings t call.kw.now) without go ≡ chosen without go o) }
+        with_one_at_most w call.entry.args.now (bindings t call.entry.kw.now) without go ≡ chosen without go o) }
     ensures refused { IfErr result (λ x. (t : Reading) (w : PlainWorld) (without : Said) (go : Object → Said) →
-        with_one_at_most w call.args.now (bindings t call.kw.now) without go ≡ Ends w (Err x)) }
-    ensures node { IfOk result (λ o. IfSome o (λ r. (w : Held) → Holds w (AreNodes call.args.now) → Holds w (IsNode r))) }
+        with_one_at_most w call.entry.args.now (bindings t call.entry.kw.now) without go ≡ Ends w (Err x)) }
+    ensures node { IfOk result (λ o. IfSome o (λ r. (w : Held) → Holds w (AreNodes call.entry.args.now) → Holds w (IsNode r))) }
 {
     if call.args.len() == 2 {
         match two(call) {

@@ -31,7 +31,7 @@ pub(crate) fn begin_text(
     call: FuncArgs<'_>,
 ) -> Result<Step<PartsKept>, OutOfMemory>
     requires { Holds world.old (AreNodes call.args.now) }
-    ensures goes { IfOk result (λ step. Starts (repr_of container) call.args.now call.kw.now world.old world.new step) }
+    ensures goes { IfOk result (λ step. Starts (repr_of container) call.entry.args.now call.entry.kw.now world.old world.new step) }
     ensures safe { Leaves of_parts_kept world.old world.new result }
 {
     match lone(world, container, call) {

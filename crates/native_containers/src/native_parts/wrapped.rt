@@ -27,7 +27,7 @@ pub enum Wrapper {
 /// Asks for the text of what a class method or a static method wraps.
 pub(crate) fn begin_wrapped(world: &World, wrapper: Wrapper, call: FuncArgs<'_>) -> Step<PartsKept>
     requires { Holds world.now (AreNodes call.args.now) }
-    ensures goes { Starts (repr_of_wrapper wrapper) call.args.now call.kw.now world.now world.now result }
+    ensures goes { Starts (repr_of_wrapper wrapper) call.entry.args.now call.entry.kw.now world.now world.now result }
     ensures safe { AllHold world.now (of_step of_parts_kept result) }
 {
     let func = match own_wrapped(world, wrapper, call.args) {

@@ -40,9 +40,9 @@ pub fn own_text<'a>(world: &'a World, args: &[PyObjectRef]) -> Result<&'a str, R
 pub fn lone_text<'a>(world: &'a World, call: FuncArgs<'_>) -> Result<(PyObjectRef, &'a str), Raised>
     requires { Holds world.now (AreNodes call.args.now) }
     ensures given { IfOk result (λ p. (t : Reading) (go : Object → Text → Said) →
-        with_lone_text (plain t world.now) call.args.now (bindings t call.kw.now) go ≡ go p.0 p.1.now) }
+        with_lone_text (plain t world.now) call.entry.args.now (bindings t call.entry.kw.now) go ≡ go p.0 p.1.now) }
     ensures refused { IfErr result (λ x. (t : Reading) (go : Object → Text → Said) →
-        with_lone_text (plain t world.now) call.args.now (bindings t call.kw.now) go ≡ Ends (plain t world.now) (Err x)) }
+        with_lone_text (plain t world.now) call.entry.args.now (bindings t call.entry.kw.now) go ≡ Ends (plain t world.now) (Err x)) }
     ensures node { IfOk result (λ p. Holds world.now (IsNode p.0)) }
 {
     let text = own_text(world, call.args)?;
@@ -54,9 +54,9 @@ pub fn lone_text<'a>(world: &'a World, call: FuncArgs<'_>) -> Result<(PyObjectRe
 pub fn text_and<'a>(world: &'a World, call: FuncArgs<'_>) -> Result<(&'a str, PyObjectRef), Raised>
     requires { Holds world.now (AreNodes call.args.now) }
     ensures given { IfOk result (λ p. (t : Reading) (go : Text → Object → Said) →
-        with_text_and (plain t world.now) call.args.now (bindings t call.kw.now) go ≡ go p.0.now p.1) }
+        with_text_and (plain t world.now) call.entry.args.now (bindings t call.entry.kw.now) go ≡ go p.0.now p.1) }
     ensures refused { IfErr result (λ x. (t : Reading) (go : Text → Object → Said) →
-        with_text_and (plain t world.now) call.args.now (bindings t call.kw.now) go ≡ Ends (plain t world.now) (Err x)) }
+        with_text_and (plain t world.now) call.entry.args.now (bindings t call.entry.kw.now) go ≡ Ends (plain t world.now) (Err x)) }
     ensures node { IfOk result (λ p. Holds world.now (IsNode p.1)) }
 {
     let text = own_text(world, call.args)?;

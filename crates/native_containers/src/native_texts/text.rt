@@ -1,7 +1,7 @@
 //! The natives of texts.
 
 ghost use Rattle.py_node.specs.Stops.{Ended};
-ghost use Rattle.native_containers.specs.Below.{IfOk, of_ended, Reading, bindings, plain, AllHold, AreNodes, Holds, IsNode, EndsAs, LeavesEnd, class_at};
+ghost use Rattle.native_containers.specs.Below.{of_ended, Reading, bindings, plain, AllHold, AreNodes, Holds, IsNode, EndsAs, LeavesEnd, class_at};
 ghost use Rattle.std.specs.Prelude.{◌≡◌};
 ghost use Rattle.native_containers.specs.NativeTexts.Say.{is_str, str_add, str_contains, str_hash, str_iter, str_len, str_repr, str_str, str_upper, text_say};
 
@@ -15,7 +15,7 @@ use row_kit::give::{new_iterator, new_text};
 /// A native of texts. Those that ask a task are not done here.
 pub fn text_native(world: &mut World, native: StrNative, call: FuncArgs<'_>) -> Result<Answer, Stop>
     requires { Holds world.old (AreNodes call.args.now) }
-    ensures ends { Ended result (EndsAs (λ t u. text_say u native call.args.now (bindings t call.kw.now))
+    ensures ends { Ended result (EndsAs (λ t u. text_say u native call.entry.args.now (bindings t call.entry.kw.now))
         world.old world.new) }
     ensures safe { LeavesEnd world.old world.new result }
 {
@@ -37,7 +37,7 @@ pub fn text_native(world: &mut World, native: StrNative, call: FuncArgs<'_>) -> 
 // The text as Python writes it.
 fn str_repr(world: &mut World, call: FuncArgs<'_>) -> Result<Answer, Stop>
     requires { Holds world.old (AreNodes call.args.now) }
-    ensures ends { Ended result (EndsAs (λ t u. str_repr u call.args.now (bindings t call.kw.now))
+    ensures ends { Ended result (EndsAs (λ t u. str_repr u call.entry.args.now (bindings t call.entry.kw.now))
         world.old world.new) }
     ensures safe { LeavesEnd world.old world.new result }
 {
@@ -49,7 +49,7 @@ fn str_repr(world: &mut World, call: FuncArgs<'_>) -> Result<Answer, Stop>
 // The text itself, as a str of no other class.
 fn str_str(world: &mut World, call: FuncArgs<'_>) -> Result<Answer, Stop>
     requires { Holds world.old (AreNodes call.args.now) }
-    ensures ends { Ended result (EndsAs (λ t u. str_str u call.args.now (bindings t call.kw.now))
+    ensures ends { Ended result (EndsAs (λ t u. str_str u call.entry.args.now (bindings t call.entry.kw.now))
         world.old world.new) }
     ensures safe { LeavesEnd world.old world.new result }
 {
@@ -66,7 +66,7 @@ fn str_str(world: &mut World, call: FuncArgs<'_>) -> Result<Answer, Stop>
 // The hash of the text.
 fn str_hash(world: &World, call: FuncArgs<'_>) -> Result<Answer, Raised>
     requires { Holds world.now (AreNodes call.args.now) }
-    ensures ends { EndsAs (λ t u. str_hash u call.args.now (bindings t call.kw.now)) world.now world.now result }
+    ensures ends { EndsAs (λ t u. str_hash u call.entry.args.now (bindings t call.entry.kw.now)) world.now world.now result }
     ensures holds { AllHold world.now (of_ended result) }
 {
     let (_, text) = lone_text(world, call)?;
@@ -76,7 +76,7 @@ fn str_hash(world: &World, call: FuncArgs<'_>) -> Result<Answer, Raised>
 // How many characters the text has.
 fn str_len(world: &World, call: FuncArgs<'_>) -> Result<Answer, Raised>
     requires { Holds world.now (AreNodes call.args.now) }
-    ensures ends { EndsAs (λ t u. str_len u call.args.now (bindings t call.kw.now)) world.now world.now result }
+    ensures ends { EndsAs (λ t u. str_len u call.entry.args.now (bindings t call.entry.kw.now)) world.now world.now result }
     ensures holds { AllHold world.now (of_ended result) }
 {
     let (_, text) = lone_text(world, call)?;
@@ -86,7 +86,7 @@ fn str_len(world: &World, call: FuncArgs<'_>) -> Result<Answer, Raised>
 // An iterator over the characters of the text.
 fn str_iter(world: &mut World, call: FuncArgs<'_>) -> Result<Answer, Stop>
     requires { Holds world.old (AreNodes call.args.now) }
-    ensures ends { Ended result (EndsAs (λ t u. str_iter u call.args.now (bindings t call.kw.now))
+    ensures ends { Ended result (EndsAs (λ t u. str_iter u call.entry.args.now (bindings t call.entry.kw.now))
         world.old world.new) }
     ensures safe { LeavesEnd world.old world.new result }
 {
@@ -97,7 +97,7 @@ fn str_iter(world: &mut World, call: FuncArgs<'_>) -> Result<Answer, Stop>
 // The text with the letters of ASCII in upper case.
 fn str_upper(world: &mut World, call: FuncArgs<'_>) -> Result<Answer, Stop>
     requires { Holds world.old (AreNodes call.args.now) }
-    ensures ends { Ended result (EndsAs (λ t u. str_upper u call.args.now (bindings t call.kw.now))
+    ensures ends { Ended result (EndsAs (λ t u. str_upper u call.entry.args.now (bindings t call.entry.kw.now))
         world.old world.new) }
     ensures safe { LeavesEnd world.old world.new result }
 {
@@ -109,7 +109,7 @@ fn str_upper(world: &mut World, call: FuncArgs<'_>) -> Result<Answer, Stop>
 // Both texts, one after the other.
 fn str_add(world: &mut World, call: FuncArgs<'_>) -> Result<Answer, Stop>
     requires { Holds world.old (AreNodes call.args.now) }
-    ensures ends { Ended result (EndsAs (λ t u. str_add u call.args.now (bindings t call.kw.now))
+    ensures ends { Ended result (EndsAs (λ t u. str_add u call.entry.args.now (bindings t call.entry.kw.now))
         world.old world.new) }
     ensures safe { LeavesEnd world.old world.new result }
 {
@@ -127,7 +127,7 @@ fn str_add(world: &mut World, call: FuncArgs<'_>) -> Result<Answer, Stop>
 // Whether the other text stands somewhere in the first.
 fn str_contains(world: &World, call: FuncArgs<'_>) -> Result<Answer, Raised>
     requires { Holds world.now (AreNodes call.args.now) }
-    ensures ends { EndsAs (λ t u. str_contains u call.args.now (bindings t call.kw.now)) world.now world.now result }
+    ensures ends { EndsAs (λ t u. str_contains u call.entry.args.now (bindings t call.entry.kw.now)) world.now world.now result }
     ensures holds { AllHold world.now (of_ended result) }
 {
     let (text, other) = text_and(world, call)?;
