@@ -39,7 +39,7 @@ pub fn getter_of_native(
     call: FuncArgs<'_>,
 ) -> Result<Answer, Stop>
     requires { Holds world.old (AreNodes call.args.now) }
-    ensures ends { Ended result (EndsAs (λ t u. getter_of_say u class detail call.args.now (bindings t call.kw.now))
+    ensures ends { Ended result (EndsAs (λ t u. getter_of_say u class detail call.entry.args.now (bindings t call.entry.kw.now))
         world.old world.new) }
     ensures safe { LeavesEnd world.old world.new result }
 {

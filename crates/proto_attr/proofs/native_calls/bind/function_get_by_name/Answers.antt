@@ -11,4 +11,4 @@ pub returns-in-Ok-clause-ends : goal.returns-in-Ok-clause-ends
 returns-in-Ok-clause-ends c =
     let a = c.args in
     let p = c.in-Ok in
-    taken-descriptor (λ t u. function_get_by_name u a.args.now (bindings t a.kw.now)) (λ t u. function_get u p.m (Some p.o) (class_of_option u p.class)) a.world.now c.bind_function.new.world c.bind_function.result (λ t. p.ensures.given t (go (plain t a.world.now))) c.bind_function.ensures.goes
+    taken-descriptor (λ t u. function_get_by_name u a.call.args.now (bindings t a.call.kw.now)) (λ t u. function_get u p.m (Some p.o) (class_of_option u p.class)) a.world.now c.bind_function.new.world c.bind_function.result (λ t. p.ensures.given t (go (plain t a.world.now))) c.bind_function.ensures.goes

@@ -11,4 +11,4 @@ pub returns-in-Ok-clause-ends : goal.returns-in-Ok-clause-ends
 returns-in-Ok-clause-ends c =
     let a = c.args in
     let p = c.in-Ok in
-    taken-descriptor (λ t u. native_get_by_name u a.args.now (bindings t a.kw.now)) (λ t u. native_get u (datum_at u p.m) p.m (Some p.o) p.class) a.world.now c.bind_native.new.world c.bind_native.result (λ t. p.ensures.given t (go (plain t a.world.now))) c.bind_native.ensures.goes
+    taken-descriptor (λ t u. native_get_by_name u a.call.args.now (bindings t a.call.kw.now)) (λ t u. native_get u (datum_at u p.m) p.m (Some p.o) p.class) a.world.now c.bind_native.new.world c.bind_native.result (λ t. p.ensures.given t (go (plain t a.world.now))) c.bind_native.ensures.goes
