@@ -13,16 +13,16 @@ returns-in-Super-clause-goes c =
     let f = c.super_get_by_name in
     subst (λ k. Does a.entry (λ t u. by_way u (Binds k) a.entry a.call.args.now (bindings t a.call.kw.now)) a.world.now a.world.now f.result) (sym c.in-Super.is) f.ensures.goes
 
-pub returns-in-Function-clause-goes : goal.returns-in-Function-clause-goes
-returns-in-Function-clause-goes c =
+pub returns-in_ok-ended-in-Function-clause-goes : goal.returns-in_ok-ended-in-Function-clause-goes
+returns-in_ok-ended-in-Function-clause-goes c =
     let a = c.args in
     let f = c.function_get_by_name in
     let e = c.in_ok-ended-in-Function in
     let ends = sorted-ends f.result e.ended _ e.ensures f.ensures.ends in
     subst (λ k. Does a.entry (λ t u. by_way u (Binds k) a.entry a.call.args.now (bindings t a.call.kw.now)) a.world.now f.new.world (End e.ended)) (sym c.in-Function.is) (ended-does a.entry (λ t u. function_get_by_name u a.call.args.now (bindings t a.call.kw.now)) a.world.now f.new.world e.ended ends)
 
-pub returns-in-Native-clause-goes : goal.returns-in-Native-clause-goes
-returns-in-Native-clause-goes c =
+pub returns-in_ok-ended-in-Native-clause-goes : goal.returns-in_ok-ended-in-Native-clause-goes
+returns-in_ok-ended-in-Native-clause-goes c =
     let a = c.args in
     let f = c.native_get_by_name in
     let e = c.in_ok-ended-in-Native in
