@@ -1,7 +1,7 @@
 //! The natives that call an object, bind it, or make one, by name. Each is a small automaton: `begin` and `resume`.
 #![tactic(auto, using(class_world::proofs::Items::item_holds), unfolding(crate::specs::NativeCalls::Say::asking_job_say))]
 
-ghost use Rattle.proto_attr.specs.Below.{IfOk, of_args, of_ended, of_step, Leaves, Reading, bindings, AllHold, AreNodes, Holds};
+ghost use Rattle.proto_attr.specs.Below.{IfOk, of_args, of_ended, of_step, Leaves, bindings, AllHold, AreNodes, Holds};
 ghost use Rattle.std.specs.Prelude.{◌≡◌};
 ghost use Rattle.py_node.specs.declared.task.Task.TheVariants as task;
 ghost use Rattle.proto_attr.specs.ProtoDescr.Rows.{nothing_held};

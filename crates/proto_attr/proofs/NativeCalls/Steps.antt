@@ -38,6 +38,14 @@ super-resumes c o r old new s h = λ t q.
     let p = asking_stands t (Binding c o) in
     (e.0, subst (λ said. Steps asking_job_say (asking_stands t) t p.task (p.told ++ Answered (ended_of r) ∷ []) said (End s) new) (sym e.1) (refl, refl))
 
+-- a native that goes on where nothing is kept, and ends as it was told
+pub told-resumes : (r : Result Answer Fault) (old new : World) (s : Result Answer Fault) → EndsAs (λ t u. named_end u (ended_of r) []) old new s → Resumes Pass r old new (End s)
+unfolding asking_job_say
+told-resumes r old new s h = λ t q.
+    let e = h t q in
+    let p = asking_stands t Pass in
+    (e.0, subst (λ said. Steps asking_job_say (asking_stands t) t p.task (p.told ++ Answered (ended_of r) ∷ []) said (End s) new) (sym e.1) (refl, refl))
+
 -- what is said is what is said of what it takes
 
 pub taken-descriptor : (said other : Reading → PlainWorld → Said) (old new : World) (r : Result Answer Stop) → ((t : Reading) → said t (plain t old) ≡ other t (plain t old)) → Stopped r (descriptors.EndsAs other old new) → Stopped r (EndsAs said old new)

@@ -1,7 +1,7 @@
 //! The natives of descriptors and of `super`.
 
 ghost use Rattle.py_node.specs.Stops.{Ended};
-ghost use Rattle.proto_attr.specs.Below.{Err, IfErr, IfOk, option_map, string_bytes, PlainWorld, Said, Ends, of_ended, Reading, Reads, bindings, plain, spelled, EndsAs, LeavesEnd, AllHold, AreNodes, Grows, IsClass, IsName, Holds, of_option, of_start};
+ghost use Rattle.proto_attr.specs.Below.{Err, IfOk, option_map, string_bytes, of_ended, Reading, Reads, bindings, plain, spelled, EndsAs, LeavesEnd, AllHold, AreNodes, Grows, IsClass, IsName, Holds, of_option, of_start};
 ghost use Rattle.std.specs.Prelude.{◌≡◌, ◌∷◌};
 ghost use Rattle.proto_attr.specs.NativeObjects.Descriptors.{callable_say, descriptor_native_say, super_say, wrapper_say, method_repr, member_repr, method_text, member_text, bound_text, super_repr, super_text, static_init};
 

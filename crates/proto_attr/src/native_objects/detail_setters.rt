@@ -1,7 +1,7 @@
 //! What is set through setters of the objects of the built-in classes other than `object` and `type`.
 
 ghost use Rattle.py_node.specs.Stops.{Ended};
-ghost use Rattle.proto_attr.specs.Below.{IfOk, of_ended, bindings, EndsAs, LeavesEnd, AllHold, AreNodes, Grows, Holds};
+ghost use Rattle.proto_attr.specs.Below.{of_ended, bindings, EndsAs, LeavesEnd, AllHold, AreNodes, Grows, Holds};
 ghost use Rattle.proto_attr.specs.NativeObjects.DetailSetters.{set_of_property, setter_of_say};
 
 use crate::native_objects::take::{one_or_two, own_property};

@@ -1,7 +1,7 @@
 //! What is read of `object` and `type` through getters.
 
 ghost use Rattle.py_node.specs.Stops.{Ended};
-ghost use Rattle.proto_attr.specs.Below.{IfOk, option_map, PlainWorld, Ends, ref, base, of_ended, Reading, bindings, ended_of, plain, Held, EndsAs, LeavesEnd, AllHold, AreNodes, IsClass, IsNode, Holds, of_node_ref, of_option};
+ghost use Rattle.proto_attr.specs.Below.{option_map, PlainWorld, Ends, ref, base, of_ended, Reading, bindings, ended_of, plain, Held, EndsAs, LeavesEnd, AllHold, AreNodes, IsClass, IsNode, Holds, of_node_ref, of_option};
 ghost use Rattle.std.specs.Prelude.{◌≡◌};
 ghost use Rattle.proto_attr.specs.NativeObjects.Details.{or_none};
 ghost use Rattle.proto_attr.specs.NativeObjects.Getters.{class_read, dict_or_fault, getter_say};

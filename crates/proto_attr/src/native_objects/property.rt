@@ -1,7 +1,7 @@
 //! The natives of `property`.
 
 ghost use Rattle.py_node.specs.Stops.{Ended};
-ghost use Rattle.proto_attr.specs.Below.{IfOk, Some, class_at, of_ended, Reading, Reads, bindings, plain, spelled, EndsAs, LeavesEnd, AllHold, AreNodes, Grows, Holding, Holds, IsClass, IsName, IsNode, IsOf, of_binding, of_each, of_node_ref, of_option, of_property};
+ghost use Rattle.proto_attr.specs.Below.{Some, class_at, of_ended, Reading, Reads, bindings, plain, spelled, EndsAs, LeavesEnd, AllHold, AreNodes, Grows, Holding, Holds, IsClass, IsName, IsNode, IsOf, of_binding, of_each, of_node_ref, of_option, of_property};
 ghost use Rattle.std.specs.Prelude.{◌≡◌};
 ghost use Rattle.py_node.specs.declared.built_in.BuiltIn.TheVariants.{Property};
 ghost use Rattle.proto_attr.specs.NativeObjects.Descriptors.{bare, may_name, or_old, placed, property_init, property_say, property_set_name, unless_given, unless_none, property_part, part_set, with_part, with_parts, without_none};

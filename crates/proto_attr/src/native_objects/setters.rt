@@ -1,7 +1,7 @@
 //! What is set of `object` and `type` through setters.
 
 ghost use Rattle.py_node.specs.Stops.{Ended};
-ghost use Rattle.proto_attr.specs.Below.{true, is_some, IfOk, IfSome, Dict, dict_of, class_number, PlainWorld, Ends, datum_at, of_ended, Reading, bindings, ended_of, plain, EndsAs, LeavesEnd, AllHold, AreNodes, Grows, Holding, IsClass, IsNode, Holds};
+ghost use Rattle.proto_attr.specs.Below.{true, is_some, IfSome, Dict, dict_of, class_number, PlainWorld, Ends, datum_at, of_ended, Reading, bindings, ended_of, plain, EndsAs, LeavesEnd, AllHold, AreNodes, Grows, Holding, IsClass, IsNode, Holds};
 ghost use Rattle.std.specs.Prelude.{◌≡◌};
 ghost use Rattle.proto_attr.specs.NativeObjects.Setters.{class_written, is_dict, redicted, reclassed, set_class, set_class_dict, set_dict, setter_say};
 
