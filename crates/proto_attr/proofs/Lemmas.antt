@@ -25,7 +25,7 @@ pub use Rattle.proto_attr.proofs.Nodes.{first-node}
 pub use Rattle.proto_attr.proofs.OrGetAttr.{get-attr-passed, get-attr-said, told}
 pub use Rattle.proto_attr.proofs.ProtoDescr.Lines.{line-classes}
 pub use Rattle.proto_attr.proofs.ProtoDescr.Names.{name_holds}
-pub use Rattle.proto_attr.proofs.ProtoDescr.Steps.{closed-begins, closes-starts, passed-resumes, passed-starts, told-resumes as row-resumes}
+pub use Rattle.proto_attr.proofs.ProtoDescr.Steps.{closed-begins, closes-starts, passed-resumes, passed-starts, told-row}
 pub use Rattle.proto_attr.proofs.Winning.{answer-given, class-last, data-wins, dict-next, neither-has}
 pub use Rattle.proto_attr.specs.Below.{ADict, ASuper, ATuple, Ask, Asks, DoBinary, DoGetAttr, DoSuperInit, End, Ends, Get, GetterOf, Or, PlainWorld, PyObjectRef, PyProperty, ReadObjects, Reading, Said, SetOwn, ToAttribute, ToOperator, base, bindings, datum, datum_at, fault, in_length, is_text, keyed, known_text, numbers, object_made, of_task, option_and_then, option_map, plain, ref, sized_made, special_at, spelled, spelled_option, string_bytes, text_made, the_dict, the_object, the_tuple, truth, with_heir, with_node, with_one, with_own_attr, with_two}
 pub use Rattle.proto_attr.specs.NativeCalls.Asks.{Does}

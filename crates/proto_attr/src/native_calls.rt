@@ -175,7 +175,10 @@ pub fn resume(
     ensures safe { Leaves of_native_kept world.old world.new result }
 {
     match kept {
-        NativeKept::Pass => Ok(Step::End(caught(as_object(world, answer))?)),
+        NativeKept::Pass => {
+            let ended = caught(as_object(world, answer))?;
+            Ok(Step::End(ended))
+        }
         NativeKept::AfterGet(class, func) => resume_class_method(world, class, func, answer),
         NativeKept::AfterDoc(wrapper, class, func) => {
             give_doc(world, wrapper, class, func, answer)

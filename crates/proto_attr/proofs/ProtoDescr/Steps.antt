@@ -39,9 +39,9 @@ passed-resumes k f r old new (End s) h = λ t q.
     (e.0, subst (λ said. Steps descriptor_say (descriptor_stands t) t p.task (p.told ++ Answered (ended_of r) ∷ []) said (End s) new) (sym e.1) (refl, refl))
 
 -- and one that goes on where nothing is kept, and ends as it was told
-pub told-resumes : (r : Result Answer Fault) (old new : World) (s : Result Answer Fault) → Told (λ t u. named_end u (ended_of r) []) old new s → Resumes Pass r old new (End s)
+pub told-row : (r : Result Answer Fault) (old new : World) (s : Result Answer Fault) → Told (λ t u. named_end u (ended_of r) []) old new s → Resumes Pass r old new (End s)
 unfolding descriptor_say
-told-resumes r old new s h = λ t q.
+told-row r old new s h = λ t q.
     let e = h t q in
     let p = descriptor_stands t Pass in
     (e.0, subst (λ said. Steps descriptor_say (descriptor_stands t) t p.task (p.told ++ Answered (ended_of r) ∷ []) said (End s) new) (sym e.1) (refl, refl))
