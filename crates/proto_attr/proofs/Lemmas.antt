@@ -8,7 +8,6 @@ pub use Rattle.class_world.specs.Sound.{AllHold, AreNames, AreNodes, IsName, IsN
 pub use Rattle.plain_machine.specs.Dicts.{entries_from}
 pub use Rattle.proto_attr.proofs.Below.{Binds, Steps, Wraps, along, class_at, is_class, lin, lin-classes, line-seen, with_one_or_two}
 unfoldable pub use Rattle.proto_attr.proofs.Below.{Holds, descriptor_say}
-pub use Rattle.proto_attr.proofs.Caught.{sorted-ends, sorted-ok, sorted-raised}
 pub use Rattle.proto_attr.proofs.NativeCalls.Lists.{after-two-hold, get-one, get-two, rest-hold, rest-is, rest-nodes, without-more}
 pub use Rattle.proto_attr.proofs.NativeCalls.Steps.{class-does, doc-does, does-begins, does-begins-ok, ended-does, ends-does, super-does, super-resumes, taken-descriptor, taken-steps, told-resumes}
 pub use Rattle.proto_attr.proofs.NativeDetails.Asking.{asks-both, asks-getter, asks-setter}
@@ -51,6 +50,7 @@ pub use Rattle.py_node.specs.Dicts.{PlainDict}
 pub use Rattle.py_node.specs.declared.built_in.BuiltIn.TheVariants.{Property}
 pub use Rattle.py_node.specs.declared.payload.Function.{Function}
 pub use Rattle.py_node.specs.declared.payload.MemberDescriptor.{MemberDescriptor}
+pub use Rattle.row_kit.proofs.Ended.{sorted_ends}
 pub use Rattle.row_kit.proofs.ObjectsEnded.{ends-after, ends-then}
 pub use Rattle.std.proofs.Common.{Err, None, Option, Some, [], add-one, ap, arith, false, refl, rules, subst, sym, true, ℕ, ◌∙◌}
 pub use Rattle.std.proofs.lemmas.Result.{err_from_is_err_and}
