@@ -9,7 +9,7 @@ pub use Rattle.plain_machine.specs.Dicts.{entries_from}
 pub use Rattle.proto_attr.proofs.Below.{Binds, Steps, Wraps, along, class_at, is_class, lin, lin-classes, line-seen, with_one_or_two}
 unfoldable pub use Rattle.proto_attr.proofs.Below.{Holds, descriptor_say}
 pub use Rattle.proto_attr.proofs.NativeCalls.Lists.{after-two-hold, get-one, get-two, rest-hold, rest-is, rest-nodes, without-more}
-pub use Rattle.proto_attr.proofs.NativeCalls.Steps.{class-does, doc-does, does-begins, does-begins-ok, ends-does, super-does, super-resumes, taken-descriptor, taken-steps}
+pub use Rattle.proto_attr.proofs.NativeCalls.Steps.{class-does, doc-does, does-begins, does-begins-ok, ended-does, ends-does, super-does, super-resumes, taken-descriptor, taken-steps, told-resumes}
 pub use Rattle.proto_attr.proofs.NativeDetails.Asking.{asks-both, asks-getter, asks-setter}
 pub use Rattle.proto_attr.proofs.NativeDetails.Named.{name-asks}
 pub use Rattle.proto_attr.proofs.NativeObjects.Bases.{base-seen, bases-seen}
@@ -24,7 +24,7 @@ pub use Rattle.proto_attr.proofs.Nodes.{first-node}
 pub use Rattle.proto_attr.proofs.OrGetAttr.{get-attr-passed, get-attr-said, told}
 pub use Rattle.proto_attr.proofs.ProtoDescr.Lines.{line-classes}
 pub use Rattle.proto_attr.proofs.ProtoDescr.Names.{name_holds}
-pub use Rattle.proto_attr.proofs.ProtoDescr.Steps.{closed-begins, closes-starts, passed-resumes, passed-starts}
+pub use Rattle.proto_attr.proofs.ProtoDescr.Steps.{closed-begins, closes-starts, passed-resumes, passed-starts, told-row}
 pub use Rattle.proto_attr.proofs.Winning.{answer-given, class-last, data-wins, dict-next, neither-has}
 pub use Rattle.proto_attr.specs.Below.{ADict, ASuper, ATuple, Ask, Asks, DoBinary, DoGetAttr, DoSuperInit, End, Ends, Get, GetterOf, Or, PlainWorld, PyObjectRef, PyProperty, ReadObjects, Reading, Said, SetOwn, ToAttribute, ToOperator, base, bindings, datum, datum_at, fault, in_length, is_text, keyed, known_text, numbers, object_made, of_task, option_and_then, option_map, plain, ref, sized_made, special_at, spelled, spelled_option, string_bytes, text_made, the_dict, the_object, the_tuple, truth, with_heir, with_node, with_one, with_own_attr, with_two}
 pub use Rattle.proto_attr.specs.NativeCalls.Asks.{Does}
@@ -50,5 +50,7 @@ pub use Rattle.py_node.specs.Dicts.{PlainDict}
 pub use Rattle.py_node.specs.declared.built_in.BuiltIn.TheVariants.{Property}
 pub use Rattle.py_node.specs.declared.payload.Function.{Function}
 pub use Rattle.py_node.specs.declared.payload.MemberDescriptor.{MemberDescriptor}
+pub use Rattle.row_kit.proofs.Ended.{sorted_ends}
 pub use Rattle.row_kit.proofs.ObjectsEnded.{ends-after, ends-then}
 pub use Rattle.std.proofs.Common.{Err, None, Option, Some, [], add-one, ap, arith, false, refl, rules, subst, sym, true, ℕ, ◌∙◌}
+pub use Rattle.std.proofs.lemmas.Result.{err_from_is_err_and}

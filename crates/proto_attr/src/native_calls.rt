@@ -1,7 +1,7 @@
 //! The natives that call an object, bind it, or make one, by name. Each is a small automaton: `begin` and `resume`.
 #![tactic(auto, using(class_world::proofs::Items::item_holds), unfolding(crate::specs::NativeCalls::Say::asking_job_say))]
 
-ghost use Rattle.proto_attr.specs.Below.{IfOk, of_args, of_ended, of_step, Leaves, Reading, bindings, AllHold, AreNodes, Holds};
+ghost use Rattle.proto_attr.specs.Below.{IfOk, of_args, of_ended, of_step, Leaves, bindings, AllHold, AreNodes, Holds};
 ghost use Rattle.std.specs.Prelude.{◌≡◌};
 ghost use Rattle.py_node.specs.declared.task.Task.TheVariants as task;
 ghost use Rattle.proto_attr.specs.ProtoDescr.Rows.{nothing_held};
@@ -74,102 +74,41 @@ pub fn begin(
     ensures goes { IfOk result (λ step. Begins (task.Native entry args kw) world.old world.new step) }
     ensures safe { Leaves of_native_kept world.old world.new result }
 {
+    let call = FuncArgs {
+        args: &args,
+        kw: &kw,
+    };
     match way_of(entry) {
-        Way::Binds(kind) => binds(
-            world,
-            entry,
-            kind,
-            FuncArgs {
-                args: &args,
-                kw: &kw,
-            },
-        ),
+        Way::Binds(kind) => binds(world, entry, kind, call),
         Way::Sets(setting) => {
-            let step = set_by_name(
-                world,
-                setting,
-                FuncArgs {
-                    args: &args,
-                    kw: &kw,
-                },
-            )?;
+            let step = set_by_name(world, setting, call)?;
             Ok(answering(world, step))
         }
         Way::Deletes(setting) => {
-            let step = delete_by_name(
-                world,
-                setting,
-                FuncArgs {
-                    args: &args,
-                    kw: &kw,
-                },
-            )?;
+            let step = delete_by_name(world, setting, call)?;
             Ok(answering(world, step))
         }
         Way::Reads(wrapper, detail) => {
-            let step = part_of_wrapped(
-                world,
-                wrapper,
-                detail,
-                FuncArgs {
-                    args: &args,
-                    kw: &kw,
-                },
-            );
+            let step = part_of_wrapped(world, wrapper, detail, call);
             Ok(passed(step))
         }
         Way::Marked(wrapper) => {
-            let step = part_of_wrapped(
-                world,
-                wrapper,
-                Detail::IsAbstract,
-                FuncArgs {
-                    args: &args,
-                    kw: &kw,
-                },
-            );
+            let step = part_of_wrapped(world, wrapper, Detail::IsAbstract, call);
             Ok(marking(step))
         }
         Way::Marks(class) => {
-            let step = mark_by_name(
-                world,
-                class,
-                FuncArgs {
-                    args: &args,
-                    kw: &kw,
-                },
-            );
+            let step = mark_by_name(world, class, call);
             Ok(answering(world, step))
         }
         Way::Looks => {
-            let step = super_attribute_by_name(
-                world,
-                FuncArgs {
-                    args: &args,
-                    kw: &kw,
-                },
-            )?;
+            let step = super_attribute_by_name(world, call)?;
             Ok(passed(step))
         }
         Way::Starts => {
-            let step = super_init_by_name(
-                world,
-                FuncArgs {
-                    args: &args,
-                    kw: &kw,
-                },
-            )?;
+            let step = super_init_by_name(world, call)?;
             Ok(passed(step))
         }
-        Way::Wraps(wrapper) => Ok(ask_for_doc(
-            world,
-            entry,
-            wrapper,
-            FuncArgs {
-                args: &args,
-                kw: &kw,
-            },
-        )),
+        Way::Wraps(wrapper) => Ok(ask_for_doc(world, entry, wrapper, call)),
         Way::Makes => {
             let step = new_by_name(world, &args, kw)?;
             Ok(passed(step))
@@ -191,7 +130,7 @@ fn binds(
     requires args { Holds world.old (AreNodes call.args.now) }
     requires way { way_of entry ≡ Way.Binds kind }
     ensures goes { IfOk result (λ step. Does entry
-        (λ t u. by_way u (Way.Binds kind) entry call.args.now (bindings t call.kw.now)) world.old world.new step) }
+        (λ t u. by_way u (Way.Binds kind) entry call.entry.args.now (bindings t call.entry.kw.now)) world.old world.new step) }
     ensures safe { Leaves of_native_kept world.old world.new result }
 {
     match kind {
@@ -236,7 +175,10 @@ pub fn resume(
     ensures safe { Leaves of_native_kept world.old world.new result }
 {
     match kept {
-        NativeKept::Pass => Ok(Step::End(caught(as_object(world, answer))?)),
+        NativeKept::Pass => {
+            let ended = caught(as_object(world, answer))?;
+            Ok(Step::End(ended))
+        }
         NativeKept::AfterGet(class, func) => resume_class_method(world, class, func, answer),
         NativeKept::AfterDoc(wrapper, class, func) => {
             give_doc(world, wrapper, class, func, answer)

@@ -69,7 +69,10 @@ pub fn resume(
     ensures safe { Leaves of_descriptor_kept world.old world.new result }
 {
     match kept {
-        DescriptorKept::Pass => Ok(Step::End(caught(as_object(world, answer))?)),
+        DescriptorKept::Pass => {
+            let ended = caught(as_object(world, answer))?;
+            Ok(Step::End(ended))
+        }
         DescriptorKept::AfterGet(class, func) => resume_class_method(world, class, func, answer),
         DescriptorKept::Done => Ok(Step::End(done(answer))),
         DescriptorKept::Binding(class, object) => {

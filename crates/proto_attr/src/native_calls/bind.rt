@@ -28,7 +28,7 @@ pub(crate) type Bound = (PyObjectRef, PyObjectRef, Option<PyObjectRef>);
 /// What a function gives for an object, and for a class if there is one.
 pub(crate) fn function_get_by_name(world: &mut World, call: FuncArgs<'_>) -> Result<Answer, Stop>
     requires { Holds world.old (AreNodes call.args.now) }
-    ensures ends { Ended result (EndsAs (λ t u. function_get_by_name u call.args.now (bindings t call.kw.now))
+    ensures ends { Ended result (EndsAs (λ t u. function_get_by_name u call.entry.args.now (bindings t call.entry.kw.now))
         world.old world.new) }
     ensures safe { LeavesEnd world.old world.new result }
 {
@@ -39,7 +39,7 @@ pub(crate) fn function_get_by_name(world: &mut World, call: FuncArgs<'_>) -> Res
 /// What a native as a method gives for an object, and for a class if there is one.
 pub(crate) fn native_get_by_name(world: &mut World, call: FuncArgs<'_>) -> Result<Answer, Stop>
     requires { Holds world.old (AreNodes call.args.now) }
-    ensures ends { Ended result (EndsAs (λ t u. native_get_by_name u call.args.now (bindings t call.kw.now))
+    ensures ends { Ended result (EndsAs (λ t u. native_get_by_name u call.entry.args.now (bindings t call.entry.kw.now))
         world.old world.new) }
     ensures safe { LeavesEnd world.old world.new result }
 {
@@ -50,7 +50,7 @@ pub(crate) fn native_get_by_name(world: &mut World, call: FuncArgs<'_>) -> Resul
 /// What the descriptor of a getter gives for an object.
 pub(crate) fn getset_get_by_name(world: &World, call: FuncArgs<'_>) -> Result<Step<()>, OutOfMemory>
     requires { Holds world.now (AreNodes call.args.now) }
-    ensures steps { IfOk result (λ step. StepsAs (λ t u. getset_get_by_name u call.args.now (bindings t call.kw.now))
+    ensures steps { IfOk result (λ step. StepsAs (λ t u. getset_get_by_name u call.entry.args.now (bindings t call.entry.kw.now))
         world.now world.now step) }
     ensures safe { Leaves nothing_held world.now world.now result }
 {
@@ -63,7 +63,7 @@ pub(crate) fn getset_get_by_name(world: &World, call: FuncArgs<'_>) -> Result<St
 /// What a static method gives.
 pub(crate) fn static_method_by_name(world: &World, call: FuncArgs<'_>) -> Result<Answer, Raised>
     requires { Holds world.now (AreNodes call.args.now) }
-    ensures ends { EndsAs (λ t u. static_method_by_name u call.args.now (bindings t call.kw.now)) world.now world.now result }
+    ensures ends { EndsAs (λ t u. static_method_by_name u call.entry.args.now (bindings t call.entry.kw.now)) world.now world.now result }
     ensures holds { AllHold world.now (of_ended result) }
 {
     match bound(world, Kind::StaticMethod, call) {
@@ -80,7 +80,7 @@ pub(crate) fn class_method_by_name(
 ) -> Step<NativeKept>
     requires args { Holds world.now (AreNodes call.args.now) }
     requires way { way_of entry ≡ Way.Binds Kind.ClassMethod }
-    ensures goes { Does entry (λ t u. class_method_by_name u call.args.now (bindings t call.kw.now))
+    ensures goes { Does entry (λ t u. class_method_by_name u call.entry.args.now (bindings t call.entry.kw.now))
         world.now world.now result }
     ensures safe { AllHold world.now (of_step of_native_kept result) }
 {
@@ -130,9 +130,9 @@ pub(crate) fn resume_class_method(
 pub(crate) fn bound(world: &World, kind: Kind, call: FuncArgs<'_>) -> Result<Bound, Raised>
     requires { Holds world.now (AreNodes call.args.now) }
     ensures given { IfOk result (λ p. (t : Reading) (go : Object → Object → Option Object → Said) →
-        get_by_name (plain t world.now) (is_of_kind kind) call.args.now (bindings t call.kw.now) go ≡ go p.0 p.1 p.2) }
+        get_by_name (plain t world.now) (is_of_kind kind) call.entry.args.now (bindings t call.entry.kw.now) go ≡ go p.0 p.1 p.2) }
     ensures refused { IfErr result (λ x. (t : Reading) (go : Object → Object → Option Object → Said) →
-        get_by_name (plain t world.now) (is_of_kind kind) call.args.now (bindings t call.kw.now) go ≡
+        get_by_name (plain t world.now) (is_of_kind kind) call.entry.args.now (bindings t call.entry.kw.now) go ≡
         Ends (plain t world.now) (Err x)) }
     ensures bound { IfOk result (λ p. Holds world.now (IsNode p.0)) }
     ensures object { IfOk result (λ p. Holds world.now (IsNode p.1)) }
@@ -158,11 +158,11 @@ pub(crate) fn object_and_class(
     call: FuncArgs<'_>,
 ) -> Result<(PyObjectRef, Option<PyObjectRef>), Raised>
     ensures given { IfOk result (λ p. (t : Reading) (w : PlainWorld) (go : Object → Option Object → Said) →
-        with_get w call.args.now (bindings t call.kw.now) go ≡ go p.0 p.1) }
+        with_get w call.entry.args.now (bindings t call.entry.kw.now) go ≡ go p.0 p.1) }
     ensures refused { IfErr result (λ x. (t : Reading) (w : PlainWorld) (go : Object → Option Object → Said) →
-        with_get w call.args.now (bindings t call.kw.now) go ≡ Ends w (Err x)) }
-    ensures object { IfOk result (λ p. (w : Held) → Holds w (AreNodes call.args.now) → Holds w (IsNode p.0)) }
-    ensures class { IfOk result (λ p. (w : Held) → Holds w (AreNodes call.args.now) →
+        with_get w call.entry.args.now (bindings t call.entry.kw.now) go ≡ Ends w (Err x)) }
+    ensures object { IfOk result (λ p. (w : Held) → Holds w (AreNodes call.entry.args.now) → Holds w (IsNode p.0)) }
+    ensures class { IfOk result (λ p. (w : Held) → Holds w (AreNodes call.entry.args.now) →
         AllHold w (of_option of_node_ref p.1)) }
 {
     if call.args.len() == 2 {

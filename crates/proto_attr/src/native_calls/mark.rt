@@ -15,7 +15,7 @@ use py_node::{
 /// What an object of a class wraps, or the getter of a property, is marked as abstract. The mark can't be taken out.
 pub(crate) fn mark_by_name(world: &World, class: BuiltIn, call: FuncArgs<'_>) -> Step<()>
     requires { Holds world.now (AreNodes call.args.now) }
-    ensures steps { StepsAs (λ t u. mark_by_name u class call.args.now (bindings t call.kw.now)) world.now world.now result }
+    ensures steps { StepsAs (λ t u. mark_by_name u class call.entry.args.now (bindings t call.entry.kw.now)) world.now world.now result }
     ensures safe { AllHold world.now (of_step nothing_held result) }
 {
     let (_object, func) = match own_marked(world, class, call.args) {

@@ -13,7 +13,7 @@ use py_node::{FuncArgs, OutOfMemory, Step};
 /// What a member gives of an object.
 pub(crate) fn member_get_by_name(world: &World, call: FuncArgs<'_>) -> Result<Step<()>, OutOfMemory>
     requires { Holds world.now (AreNodes call.args.now) }
-    ensures steps { IfOk result (λ step. StepsAs (λ t u. member_get_by_name u call.args.now (bindings t call.kw.now))
+    ensures steps { IfOk result (λ step. StepsAs (λ t u. member_get_by_name u call.entry.args.now (bindings t call.entry.kw.now))
         world.now world.now step) }
     ensures safe { Leaves nothing_held world.now world.now result }
 {
@@ -29,7 +29,7 @@ pub(crate) fn property_get_by_name(
     call: FuncArgs<'_>,
 ) -> Result<Step<()>, OutOfMemory>
     requires { Holds world.now (AreNodes call.args.now) }
-    ensures steps { IfOk result (λ step. StepsAs (λ t u. property_get_by_name u call.args.now (bindings t call.kw.now))
+    ensures steps { IfOk result (λ step. StepsAs (λ t u. property_get_by_name u call.entry.args.now (bindings t call.entry.kw.now))
         world.now world.now step) }
     ensures safe { Leaves nothing_held world.now world.now result }
 {

@@ -19,7 +19,7 @@ pub(crate) fn set_by_name(
     call: FuncArgs<'_>,
 ) -> Result<Step<()>, OutOfMemory>
     requires { Holds world.old (AreNodes call.args.now) }
-    ensures steps { IfOk result (λ step. StepsAs (λ t u. set_so u setting call.args.now (bindings t call.kw.now))
+    ensures steps { IfOk result (λ step. StepsAs (λ t u. set_so u setting call.entry.args.now (bindings t call.entry.kw.now))
         world.old world.new step) }
     ensures safe { Leaves nothing_held world.old world.new result }
 {
@@ -47,7 +47,7 @@ pub(crate) fn delete_by_name(
     call: FuncArgs<'_>,
 ) -> Result<Step<()>, OutOfMemory>
     requires { Holds world.old (AreNodes call.args.now) }
-    ensures steps { IfOk result (λ step. StepsAs (λ t u. delete_so u setting call.args.now (bindings t call.kw.now))
+    ensures steps { IfOk result (λ step. StepsAs (λ t u. delete_so u setting call.entry.args.now (bindings t call.entry.kw.now))
         world.old world.new step) }
     ensures safe { Leaves nothing_held world.old world.new result }
 {

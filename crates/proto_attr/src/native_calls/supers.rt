@@ -27,7 +27,7 @@ pub(crate) fn super_get_by_name(
 ) -> Step<NativeKept>
     requires args { Holds world.now (AreNodes call.args.now) }
     requires way { way_of entry ≡ Way.Binds Kind.Super }
-    ensures goes { Does entry (λ t u. super_get_by_name u call.args.now (bindings t call.kw.now)) world.now world.now result }
+    ensures goes { Does entry (λ t u. super_get_by_name u call.entry.args.now (bindings t call.entry.kw.now)) world.now world.now result }
     ensures safe { AllHold world.now (of_step of_native_kept result) }
 {
     match bound(world, Kind::Super, call) {
@@ -65,7 +65,7 @@ pub(crate) fn super_attribute_by_name(
     call: FuncArgs<'_>,
 ) -> Result<Step<()>, OutOfMemory>
     requires { Holds world.old (AreNodes call.args.now) }
-    ensures steps { IfOk result (λ step. StepsAs (λ t u. super_attribute_by_name u call.args.now (bindings t call.kw.now))
+    ensures steps { IfOk result (λ step. StepsAs (λ t u. super_attribute_by_name u call.entry.args.now (bindings t call.entry.kw.now))
         world.old world.new step) }
     ensures safe { Leaves nothing_held world.old world.new result }
 {
@@ -95,7 +95,7 @@ pub(crate) fn super_attribute_by_name(
 /// A `super` is initialised with any arguments, but no keywords.
 pub(crate) fn super_init_by_name(world: &World, call: FuncArgs<'_>) -> Result<Step<()>, OutOfMemory>
     requires { Holds world.now (AreNodes call.args.now) }
-    ensures steps { IfOk result (λ step. StepsAs (λ t u. super_init_by_name u call.args.now (bindings t call.kw.now))
+    ensures steps { IfOk result (λ step. StepsAs (λ t u. super_init_by_name u call.entry.args.now (bindings t call.entry.kw.now))
         world.now world.now step) }
     ensures safe { Leaves nothing_held world.now world.now result }
 {

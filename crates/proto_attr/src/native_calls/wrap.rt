@@ -57,7 +57,7 @@ pub(crate) fn ask_for_doc(
     requires args { Holds world.now (AreNodes call.args.now) }
     requires way { way_of entry ≡ Way.Wraps wrapper }
     ensures goes { Does entry
-        (λ t u. wrapper_new u (class_of_wrapper wrapper) call.args.now (bindings t call.kw.now))
+        (λ t u. wrapper_new u (class_of_wrapper wrapper) call.entry.args.now (bindings t call.entry.kw.now))
         world.now world.now result }
     ensures safe { AllHold world.now (of_step of_native_kept result) }
 {

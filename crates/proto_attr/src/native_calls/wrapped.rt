@@ -20,7 +20,7 @@ pub(crate) fn part_of_wrapped(
     call: FuncArgs<'_>,
 ) -> Step<()>
     requires { Holds world.now (AreNodes call.args.now) }
-    ensures steps { StepsAs (λ t u. part_of_wrapped u wrapper detail call.args.now (bindings t call.kw.now))
+    ensures steps { StepsAs (λ t u. part_of_wrapped u wrapper detail call.entry.args.now (bindings t call.entry.kw.now))
         world.now world.now result }
     ensures safe { AllHold world.now (of_step nothing_held result) }
 {

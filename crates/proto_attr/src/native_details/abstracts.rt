@@ -21,8 +21,8 @@ use py_node::{
 /// The getter is asked first, if there is one.
 pub(crate) fn begin_abstract(world: &World, detail: Detail, call: FuncArgs<'_>) -> Step<DetailKept>
     requires { Holds world.now (AreNodes call.args.now) }
-    ensures goes { Does (entry.GetterOf built_in.Property detail) call.args.now (λ t. bindings t call.kw.now)
-        (λ t u. property_abstract u call.args.now (bindings t call.kw.now) []) world.now world.now result }
+    ensures goes { Does (entry.GetterOf built_in.Property detail) call.entry.args.now (λ t. bindings t call.entry.kw.now)
+        (λ t u. property_abstract u call.entry.args.now (bindings t call.entry.kw.now) []) world.now world.now result }
     ensures safe { AllHold world.now (of_step of_detail_kept result) }
 {
     let (property, parts) = match own_property(world, call.args) {

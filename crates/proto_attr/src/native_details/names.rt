@@ -26,8 +26,8 @@ pub(crate) fn begin_name(
     call: FuncArgs<'_>,
 ) -> Result<Step<DetailKept>, OutOfMemory>
     requires { Holds world.old (AreNodes call.args.now) }
-    ensures goes { IfOk result (λ step. Does (entry.GetterOf built_in.MemberDescriptor detail) call.args.now
-        (λ t. bindings t call.kw.now) (λ t u. member_name u call.args.now (bindings t call.kw.now)) world.old world.new step) }
+    ensures goes { IfOk result (λ step. Does (entry.GetterOf built_in.MemberDescriptor detail) call.entry.args.now
+        (λ t. bindings t call.entry.kw.now) (λ t u. member_name u call.entry.args.now (bindings t call.entry.kw.now)) world.old world.new step) }
     ensures safe { Leaves of_detail_kept world.old world.new result }
 {
     let (object, member) = match own_member(world, call.args) {

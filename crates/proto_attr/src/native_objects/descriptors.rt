@@ -1,7 +1,7 @@
 //! The natives of descriptors and of `super`.
 
 ghost use Rattle.py_node.specs.Stops.{Ended};
-ghost use Rattle.proto_attr.specs.Below.{Err, IfErr, IfOk, option_map, string_bytes, PlainWorld, Said, Ends, of_ended, Reading, Reads, bindings, plain, spelled, EndsAs, LeavesEnd, AllHold, AreNodes, Grows, IsClass, IsName, Holds, of_option, of_start};
+ghost use Rattle.proto_attr.specs.Below.{Err, IfOk, option_map, string_bytes, of_ended, Reading, Reads, bindings, plain, spelled, EndsAs, LeavesEnd, AllHold, AreNodes, Grows, IsClass, IsName, Holds, of_option, of_start};
 ghost use Rattle.std.specs.Prelude.{◌≡◌, ◌∷◌};
 ghost use Rattle.proto_attr.specs.NativeObjects.Descriptors.{callable_say, descriptor_native_say, super_say, wrapper_say, method_repr, member_repr, method_text, member_text, bound_text, super_repr, super_text, static_init};
 
@@ -22,7 +22,7 @@ pub fn callable_native(
     call: FuncArgs<'_>,
 ) -> Result<Answer, Stop>
     requires { Holds world.old (AreNodes call.args.now) }
-    ensures ends { Ended result (EndsAs (λ t u. callable_say u native call.args.now (bindings t call.kw.now))
+    ensures ends { Ended result (EndsAs (λ t u. callable_say u native call.entry.args.now (bindings t call.entry.kw.now))
         world.old world.new) }
     ensures safe { LeavesEnd world.old world.new result }
 {
@@ -39,7 +39,7 @@ pub fn descriptor_native(
     call: FuncArgs<'_>,
 ) -> Result<Answer, Stop>
     requires { Holds world.old (AreNodes call.args.now) }
-    ensures ends { Ended result (EndsAs (λ t u. descriptor_native_say u native call.args.now (bindings t call.kw.now))
+    ensures ends { Ended result (EndsAs (λ t u. descriptor_native_say u native call.entry.args.now (bindings t call.entry.kw.now))
         world.old world.new) }
     ensures safe { LeavesEnd world.old world.new result }
 {
@@ -56,7 +56,7 @@ pub fn super_native(
     call: FuncArgs<'_>,
 ) -> Result<Answer, Stop>
     requires { Holds world.old (AreNodes call.args.now) }
-    ensures ends { Ended result (EndsAs (λ t u. super_say u native call.args.now (bindings t call.kw.now))
+    ensures ends { Ended result (EndsAs (λ t u. super_say u native call.entry.args.now (bindings t call.entry.kw.now))
         world.old world.new) }
     ensures safe { LeavesEnd world.old world.new result }
 {
@@ -73,7 +73,7 @@ pub fn wrapper_native(
     call: FuncArgs<'_>,
 ) -> Result<Answer, Stop>
     requires { Holds world.old (AreNodes call.args.now) }
-    ensures ends { Ended result (EndsAs (λ t u. wrapper_say u native call.args.now (bindings t call.kw.now))
+    ensures ends { Ended result (EndsAs (λ t u. wrapper_say u native call.entry.args.now (bindings t call.entry.kw.now))
         world.old world.new) }
     ensures safe { LeavesEnd world.old world.new result }
 {
@@ -86,7 +86,7 @@ pub fn wrapper_native(
 // The text of a native as a method: its name and its class.
 fn method_repr(world: &mut World, call: FuncArgs<'_>) -> Result<Answer, Stop>
     requires { Holds world.old (AreNodes call.args.now) }
-    ensures ends { Ended result (EndsAs (λ t u. method_repr u call.args.now (bindings t call.kw.now)) world.old world.new) }
+    ensures ends { Ended result (EndsAs (λ t u. method_repr u call.entry.args.now (bindings t call.entry.kw.now)) world.old world.new) }
     ensures safe { LeavesEnd world.old world.new result }
 {
     let (_object, (class, name)) = own_method(world, call.args)?;
@@ -98,7 +98,7 @@ fn method_repr(world: &mut World, call: FuncArgs<'_>) -> Result<Answer, Stop>
 // The text of a member: its name and its class.
 fn member_repr(world: &mut World, call: FuncArgs<'_>) -> Result<Answer, Stop>
     requires { Holds world.old (AreNodes call.args.now) }
-    ensures ends { Ended result (EndsAs (λ t u. member_repr u call.args.now (bindings t call.kw.now)) world.old world.new) }
+    ensures ends { Ended result (EndsAs (λ t u. member_repr u call.entry.args.now (bindings t call.entry.kw.now)) world.old world.new) }
     ensures safe { LeavesEnd world.old world.new result }
 {
     let (_object, (class, name)) = own_member(world, call.args)?;
@@ -136,7 +136,7 @@ fn member_text(world: &World, class: PyTypeRef, name: PyStrInterned) -> Result<S
 // The text of a `super`: the class past which it looks, and the class where it starts.
 fn super_repr(world: &mut World, call: FuncArgs<'_>) -> Result<Answer, Stop>
     requires { Holds world.old (AreNodes call.args.now) }
-    ensures ends { Ended result (EndsAs (λ t u. super_repr u call.args.now (bindings t call.kw.now)) world.old world.new) }
+    ensures ends { Ended result (EndsAs (λ t u. super_repr u call.entry.args.now (bindings t call.entry.kw.now)) world.old world.new) }
     ensures safe { LeavesEnd world.old world.new result }
 {
     let (_object, own) = own_super(world, call.args)?;
@@ -173,7 +173,7 @@ fn bound_text(alloc: Global, past: &str, start: Option<&str>) -> Result<String, 
 // A static method wraps the callable that it is given.
 fn static_init(world: &mut World, call: FuncArgs<'_>) -> Result<Answer, Raised>
     requires { Holds world.old (AreNodes call.args.now) }
-    ensures ends { EndsAs (λ t u. static_init u call.args.now (bindings t call.kw.now)) world.old world.new result }
+    ensures ends { EndsAs (λ t u. static_init u call.entry.args.now (bindings t call.entry.kw.now)) world.old world.new result }
     ensures grows { Grows world.old world.new }
     ensures holds { AllHold world.new (of_ended result) }
 {

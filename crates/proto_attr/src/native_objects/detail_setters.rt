@@ -1,7 +1,7 @@
 //! What is set through setters of the objects of the built-in classes other than `object` and `type`.
 
 ghost use Rattle.py_node.specs.Stops.{Ended};
-ghost use Rattle.proto_attr.specs.Below.{IfOk, of_ended, bindings, EndsAs, LeavesEnd, AllHold, AreNodes, Grows, Holds};
+ghost use Rattle.proto_attr.specs.Below.{of_ended, bindings, EndsAs, LeavesEnd, AllHold, AreNodes, Grows, Holds};
 ghost use Rattle.proto_attr.specs.NativeObjects.DetailSetters.{set_of_property, setter_of_say};
 
 use crate::native_objects::take::{one_or_two, own_property};
@@ -16,7 +16,7 @@ pub fn setter_of_native(
     call: FuncArgs<'_>,
 ) -> Result<Answer, Stop>
     requires { Holds world.old (AreNodes call.args.now) }
-    ensures ends { Ended result (EndsAs (λ t u. setter_of_say u class detail call.args.now (bindings t call.kw.now))
+    ensures ends { Ended result (EndsAs (λ t u. setter_of_say u class detail call.entry.args.now (bindings t call.entry.kw.now))
         world.old world.new) }
     ensures safe { LeavesEnd world.old world.new result }
 {
@@ -29,7 +29,7 @@ pub fn setter_of_native(
 // What is set of a property.
 fn set_of_property(world: &mut World, detail: Detail, call: FuncArgs<'_>) -> Result<Answer, Raised>
     requires { Holds world.old (AreNodes call.args.now) }
-    ensures ends { EndsAs (λ t u. set_of_property u detail call.args.now (bindings t call.kw.now)) world.old world.new result }
+    ensures ends { EndsAs (λ t u. set_of_property u detail call.entry.args.now (bindings t call.entry.kw.now)) world.old world.new result }
     ensures grows { Grows world.old world.new }
     ensures holds { AllHold world.new (of_ended result) }
 {
@@ -42,7 +42,7 @@ fn set_of_property(world: &mut World, detail: Detail, call: FuncArgs<'_>) -> Res
 // A property gets another text for readers, which may be any object.
 fn set_doc(world: &mut World, call: FuncArgs<'_>) -> Result<Answer, Raised>
     requires { Holds world.old (AreNodes call.args.now) }
-    ensures ends { EndsAs (λ t u. set_of_property u Detail.Doc call.args.now (bindings t call.kw.now))
+    ensures ends { EndsAs (λ t u. set_of_property u Detail.Doc call.entry.args.now (bindings t call.entry.kw.now))
         world.old world.new result }
     ensures grows { Grows world.old world.new }
     ensures holds { AllHold world.new (of_ended result) }

@@ -3,7 +3,7 @@
 ghost use Rattle.py_node.specs.Stops.{Ended};
 ghost use Rattle.proto_attr.specs.Below.{[], Some, Err, IfErr, IfOk, option_map, string_bytes, Said, Ends, PyObjectRef as Object, Held, Reading, Reads, bindings, datum, plain, spelled, spelled_option, EndsAs, LeavesEnd, AllHold, AreNodes, Holds, IsClass, IsName, of_name_ref, of_node_ref, of_option, of_optional, of_payload, of_property, of_start, with_own, signature_of};
 ghost use Rattle.std.specs.Prelude.{◌≡◌, ◌∷◌};
-ghost use Rattle.proto_attr.specs.NativeObjects.Details.{Part as Read, accessor_part, bounds_part, builtin_method_part, callable_part, class_method_part, doc_part, dotted_text, function_part, getset_part, getter_of_say, in_class_part, kept_part, looked_part, member_part, method_descriptor_part, method_part, name_part, native_function_part, native_part, part_given, part_of, property_part, signature_given, signature_part, slice_part, static_method_part, super_part, whole_text};
+ghost use Rattle.proto_attr.specs.NativeObjects.Details.{Part as Read, accessor_part, bounds_part, builtin_method_part, callable_part, class_method_part, doc_part, dotted_text, function_part, getset_part, getter_of_say, in_class_part, kept_part, looked_part, member_part, method_descriptor_part, method_part, native_function_part, native_part, part_given, part_of, property_part, signature_given, signature_part, slice_part, static_method_part, super_part, whole_text};
 ghost use Rattle.proto_attr.specs.NativeObjects.DetailParts.{of_part, read_part};
 
 use class_world::takes::one;
@@ -39,7 +39,7 @@ pub fn getter_of_native(
     call: FuncArgs<'_>,
 ) -> Result<Answer, Stop>
     requires { Holds world.old (AreNodes call.args.now) }
-    ensures ends { Ended result (EndsAs (λ t u. getter_of_say u class detail call.args.now (bindings t call.kw.now))
+    ensures ends { Ended result (EndsAs (λ t u. getter_of_say u class detail call.entry.args.now (bindings t call.entry.kw.now))
         world.old world.new) }
     ensures safe { LeavesEnd world.old world.new result }
 {

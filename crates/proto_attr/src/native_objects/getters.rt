@@ -1,7 +1,7 @@
 //! What is read of `object` and `type` through getters.
 
 ghost use Rattle.py_node.specs.Stops.{Ended};
-ghost use Rattle.proto_attr.specs.Below.{IfOk, option_map, PlainWorld, Ends, ref, base, of_ended, Reading, bindings, ended_of, plain, Held, EndsAs, LeavesEnd, AllHold, AreNodes, IsClass, IsNode, Holds, of_node_ref, of_option};
+ghost use Rattle.proto_attr.specs.Below.{option_map, PlainWorld, Ends, ref, base, of_ended, Reading, bindings, ended_of, plain, Held, EndsAs, LeavesEnd, AllHold, AreNodes, IsClass, IsNode, Holds, of_node_ref, of_option};
 ghost use Rattle.std.specs.Prelude.{◌≡◌};
 ghost use Rattle.proto_attr.specs.NativeObjects.Details.{or_none};
 ghost use Rattle.proto_attr.specs.NativeObjects.Getters.{class_read, dict_or_fault, getter_say};
@@ -25,7 +25,7 @@ pub fn getter_native(
     call: FuncArgs<'_>,
 ) -> Result<Answer, Stop>
     requires { Holds world.old (AreNodes call.args.now) }
-    ensures ends { Ended result (EndsAs (λ t u. getter_say u property call.args.now (bindings t call.kw.now))
+    ensures ends { Ended result (EndsAs (λ t u. getter_say u property call.entry.args.now (bindings t call.entry.kw.now))
         world.old world.new) }
     ensures safe { LeavesEnd world.old world.new result }
 {
@@ -42,7 +42,7 @@ pub fn getter_native(
 // The class of an object.
 fn class_of_any(world: &World, call: FuncArgs<'_>) -> Result<Answer, Raised>
     requires { Holds world.now (AreNodes call.args.now) }
-    ensures ends { EndsAs (λ t u. getter_say u Property.Class call.args.now (bindings t call.kw.now)) world.now world.now result }
+    ensures ends { EndsAs (λ t u. getter_say u Property.Class call.entry.args.now (bindings t call.entry.kw.now)) world.now world.now result }
     ensures holds { AllHold world.now (of_ended result) }
 {
     let object = one(call)?;
@@ -52,7 +52,7 @@ fn class_of_any(world: &World, call: FuncArgs<'_>) -> Result<Answer, Raised>
 // The dict of an object, which for a class is that of its attributes.
 fn dict_of_any(world: &mut World, call: FuncArgs<'_>) -> Result<Answer, Stop>
     requires { Holds world.old (AreNodes call.args.now) }
-    ensures ends { Ended result (EndsAs (λ t u. getter_say u Property.InstanceDict call.args.now (bindings t call.kw.now))
+    ensures ends { Ended result (EndsAs (λ t u. getter_say u Property.InstanceDict call.entry.args.now (bindings t call.entry.kw.now))
         world.old world.new) }
     ensures safe { LeavesEnd world.old world.new result }
 {

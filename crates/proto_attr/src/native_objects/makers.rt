@@ -1,7 +1,7 @@
 //! What makes the objects of built-in classes.
 
 ghost use Rattle.py_node.specs.Stops.{Ended};
-ghost use Rattle.proto_attr.specs.Below.{Ok, Err, IfOk, raised, EndsAs, LeavesEnd, AreNodes, Holds};
+ghost use Rattle.proto_attr.specs.Below.{Err, raised, EndsAs, LeavesEnd, AreNodes, Holds};
 ghost use Rattle.std.specs.Prelude.{◌≡◌};
 ghost use Rattle.proto_attr.specs.NativeObjects.Makers.{maker_say};
 
@@ -35,7 +35,7 @@ pub fn maker_native(
 
 // What asks another task to make an object is not made here.
 fn elsewhere() -> Result<Answer, Stop>
-    ensures { result ≡ Ok (Err (raised Cause.SelfType)) }
+    ensures { result ≡ Err (Stop.Raised (raised Cause.SelfType)) }
 {
     Err(Stop::raise(Cause::SelfType))
 }

@@ -1,7 +1,7 @@
 //! The natives of `property`.
 
 ghost use Rattle.py_node.specs.Stops.{Ended};
-ghost use Rattle.proto_attr.specs.Below.{IfOk, Some, class_at, of_ended, Reading, Reads, bindings, plain, spelled, EndsAs, LeavesEnd, AllHold, AreNodes, Grows, Holding, Holds, IsClass, IsName, IsNode, IsOf, of_binding, of_each, of_node_ref, of_option, of_property};
+ghost use Rattle.proto_attr.specs.Below.{Some, class_at, of_ended, Reading, Reads, bindings, plain, spelled, EndsAs, LeavesEnd, AllHold, AreNodes, Grows, Holding, Holds, IsClass, IsName, IsNode, IsOf, of_binding, of_each, of_node_ref, of_option, of_property};
 ghost use Rattle.std.specs.Prelude.{◌≡◌};
 ghost use Rattle.py_node.specs.declared.built_in.BuiltIn.TheVariants.{Property};
 ghost use Rattle.proto_attr.specs.NativeObjects.Descriptors.{bare, may_name, or_old, placed, property_init, property_say, property_set_name, unless_given, unless_none, property_part, part_set, with_part, with_parts, without_none};
@@ -22,7 +22,7 @@ pub fn property_native(
 ) -> Result<Answer, Stop>
     requires args { Holds world.old (AreNodes call.args.now) }
     requires kw { AllHold world.old (of_each of_binding call.kw.now) }
-    ensures ends { Ended result (EndsAs (λ t u. property_say u native call.args.now (bindings t call.kw.now))
+    ensures ends { Ended result (EndsAs (λ t u. property_say u native call.entry.args.now (bindings t call.entry.kw.now))
         world.old world.new) }
     ensures safe { LeavesEnd world.old world.new result }
 {
@@ -40,7 +40,7 @@ pub fn property_native(
 fn property_init(world: &mut World, call: FuncArgs<'_>) -> Result<Answer, Raised>
     requires args { Holds world.old (AreNodes call.args.now) }
     requires kw { AllHold world.old (of_each of_binding call.kw.now) }
-    ensures ends { EndsAs (λ t u. property_init u call.args.now (bindings t call.kw.now)) world.old world.new result }
+    ensures ends { EndsAs (λ t u. property_init u call.entry.args.now (bindings t call.entry.kw.now)) world.old world.new result }
     ensures grows { Grows world.old world.new }
     ensures holds { AllHold world.new (of_ended result) }
 {
@@ -195,7 +195,7 @@ fn may_name(world: &World, name: Option<PyObjectRef>) -> bool
 // A property is told the name that it gets in a class.
 fn property_set_name(world: &mut World, call: FuncArgs<'_>) -> Result<Answer, Raised>
     requires { Holds world.old (AreNodes call.args.now) }
-    ensures ends { EndsAs (λ t u. property_set_name u call.args.now (bindings t call.kw.now)) world.old world.new result }
+    ensures ends { EndsAs (λ t u. property_set_name u call.entry.args.now (bindings t call.entry.kw.now)) world.old world.new result }
     ensures grows { Grows world.old world.new }
     ensures holds { AllHold world.new (of_ended result) }
 {
@@ -216,7 +216,7 @@ fn property_part(
     call: FuncArgs<'_>,
 ) -> Result<Answer, Stop>
     requires { Holds world.old (AreNodes call.args.now) }
-    ensures ends { Ended result (EndsAs (λ t u. property_part u native call.args.now (bindings t call.kw.now))
+    ensures ends { Ended result (EndsAs (λ t u. property_part u native call.entry.args.now (bindings t call.entry.kw.now))
         world.old world.new) }
     ensures safe { LeavesEnd world.old world.new result }
 {

@@ -1,7 +1,7 @@
 //! Other bases for a class.
 
 ghost use Rattle.py_node.specs.Stops.{Ended};
-ghost use Rattle.proto_attr.specs.Below.{option_map, IfOk, IfSome, numbers, all_some, class_number, datum_at, Reading, plain, EndsAs, LeavesEnd, AllHold, AreNodes, IsClass, IsNode, Holds, of_class_ref, of_each};
+ghost use Rattle.proto_attr.specs.Below.{option_map, IfOk, IfSome, numbers, datum_at, Reading, plain, EndsAs, LeavesEnd, AllHold, AreNodes, IsClass, IsNode, Holds, of_class_ref, of_each};
 ghost use Rattle.std.specs.Prelude.{◌≡◌, ◌≤◌};
 ghost use Rattle.py_node.specs.declared.entry.Property.TheVariants as property;
 ghost use Rattle.proto_attr.specs.NativeObjects.Setters.{all_classes, class_written, classes_in, rebased};

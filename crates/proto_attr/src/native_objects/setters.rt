@@ -1,7 +1,7 @@
 //! What is set of `object` and `type` through setters.
 
 ghost use Rattle.py_node.specs.Stops.{Ended};
-ghost use Rattle.proto_attr.specs.Below.{true, is_some, IfOk, IfSome, Dict, dict_of, class_number, PlainWorld, Ends, datum_at, of_ended, Reading, bindings, ended_of, plain, EndsAs, LeavesEnd, AllHold, AreNodes, Grows, Holding, IsClass, IsNode, Holds};
+ghost use Rattle.proto_attr.specs.Below.{true, is_some, IfSome, Dict, dict_of, class_number, PlainWorld, Ends, datum_at, of_ended, Reading, bindings, ended_of, plain, EndsAs, LeavesEnd, AllHold, AreNodes, Grows, Holding, IsClass, IsNode, Holds};
 ghost use Rattle.std.specs.Prelude.{◌≡◌};
 ghost use Rattle.proto_attr.specs.NativeObjects.Setters.{class_written, is_dict, redicted, reclassed, set_class, set_class_dict, set_dict, setter_say};
 
@@ -18,7 +18,7 @@ pub fn setter_native(
     call: FuncArgs<'_>,
 ) -> Result<Answer, Stop>
     requires { Holds world.old (AreNodes call.args.now) }
-    ensures ends { Ended result (EndsAs (λ t u. setter_say u property call.args.now (bindings t call.kw.now))
+    ensures ends { Ended result (EndsAs (λ t u. setter_say u property call.entry.args.now (bindings t call.entry.kw.now))
         world.old world.new) }
     ensures safe { LeavesEnd world.old world.new result }
 {
@@ -35,7 +35,7 @@ pub fn setter_native(
 // The class of an object.
 fn class_of_any(world: &mut World, call: FuncArgs<'_>) -> Result<Answer, Raised>
     requires { Holds world.old (AreNodes call.args.now) }
-    ensures ends { EndsAs (λ t u. setter_say u Property.Class call.args.now (bindings t call.kw.now)) world.old world.new result }
+    ensures ends { EndsAs (λ t u. setter_say u Property.Class call.entry.args.now (bindings t call.entry.kw.now)) world.old world.new result }
     ensures grows { Grows world.old world.new }
     ensures holds { AllHold world.new (of_ended result) }
 {
@@ -48,7 +48,7 @@ fn class_of_any(world: &mut World, call: FuncArgs<'_>) -> Result<Answer, Raised>
 // The dict of an object, which for a class is that of its attributes.
 fn dict_of_any(world: &mut World, call: FuncArgs<'_>) -> Result<Answer, Raised>
     requires { Holds world.old (AreNodes call.args.now) }
-    ensures ends { EndsAs (λ t u. setter_say u Property.InstanceDict call.args.now (bindings t call.kw.now))
+    ensures ends { EndsAs (λ t u. setter_say u Property.InstanceDict call.entry.args.now (bindings t call.entry.kw.now))
         world.old world.new result }
     ensures grows { Grows world.old world.new }
     ensures holds { AllHold world.new (of_ended result) }

@@ -15,11 +15,11 @@ use row_kit::take_classes::own_class;
 /// The only argument, or the first one with a second, or why the arguments are refused.
 pub(crate) fn one_or_two(call: FuncArgs<'_>) -> Result<(PyObjectRef, Option<PyObjectRef>), Raised>
     ensures given { IfOk result (λ p. (t : Reading) (w : PlainWorld) (go : Object → Option Object → Said) →
-        with_one_or_two w call.args.now (bindings t call.kw.now) go ≡ go p.0 p.1) }
+        with_one_or_two w call.entry.args.now (bindings t call.entry.kw.now) go ≡ go p.0 p.1) }
     ensures refused { IfErr result (λ x. (t : Reading) (w : PlainWorld) (go : Object → Option Object → Said) →
-        with_one_or_two w call.args.now (bindings t call.kw.now) go ≡ Ends w (Err x)) }
-    ensures first { IfOk result (λ p. (w : Held) → Holds w (AreNodes call.args.now) → Holds w (IsNode p.0)) }
-    ensures second { IfOk result (λ p. (w : Held) → Holds w (AreNodes call.args.now) →
+        with_one_or_two w call.entry.args.now (bindings t call.entry.kw.now) go ≡ Ends w (Err x)) }
+    ensures first { IfOk result (λ p. (w : Held) → Holds w (AreNodes call.entry.args.now) → Holds w (IsNode p.0)) }
+    ensures second { IfOk result (λ p. (w : Held) → Holds w (AreNodes call.entry.args.now) →
         IfSome p.1 (λ r. Holds w (IsNode r))) }
 {
     if call.args.len() == 2 {
@@ -42,9 +42,9 @@ pub(crate) fn class_and_given(
 ) -> Result<(PyTypeRef, Option<PyObjectRef>), Raised>
     requires { Holds world.now (AreNodes call.args.now) }
     ensures given { IfOk result (λ p. (t : Reading) (go : ℕ → Option Object → Said) →
-        with_class_and_given (plain t world.now) call.args.now (bindings t call.kw.now) go ≡ go p.0.0 p.1) }
+        with_class_and_given (plain t world.now) call.entry.args.now (bindings t call.entry.kw.now) go ≡ go p.0.0 p.1) }
     ensures refused { IfErr result (λ x. (t : Reading) (go : ℕ → Option Object → Said) →
-        with_class_and_given (plain t world.now) call.args.now (bindings t call.kw.now) go ≡ Ends (plain t world.now) (Err x)) }
+        with_class_and_given (plain t world.now) call.entry.args.now (bindings t call.entry.kw.now) go ≡ Ends (plain t world.now) (Err x)) }
     ensures class { IfOk result (λ p. Holds world.now (IsClass p.0.0)) }
     ensures node { IfOk result (λ p. IfSome p.1 (λ r. Holds world.now (IsNode r))) }
 {
