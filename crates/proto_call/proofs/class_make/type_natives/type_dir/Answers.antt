@@ -22,7 +22,7 @@ returns-clause-ends c =
     let list = c.in_ok-keys.keys in
     let same : c.deref.result.now ≡ c.in_ok-entries.entries.items = search rules in
     let keys = c.in_ok-keys.ensures ∙ ap (map (λ (e : PyObjectRef × PyObjectRef). e.0)) same in
-    ends-then (λ t u. type_dir u c.args.args.now (bindings t c.args.kw.now)) (λ t u. sized_made u the_list (datum t (payload.List list))) w mid c.new_sized.new.world c.new_sized.result (λ t r.
+    ends-then (λ t u. type_dir u c.args.call.args.now (bindings t c.args.call.kw.now)) (λ t u. sized_made u the_list (datum t (payload.List list))) w mid c.new_sized.new.world c.new_sized.result (λ t r.
     let u = plain t w in
     let first = c.key_all.ensures.reads t r in (
       first,

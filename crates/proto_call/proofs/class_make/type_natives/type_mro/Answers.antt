@@ -22,7 +22,7 @@ returns-in_ok-nodes-in-Ok-clause-ends c =
     let w = c.args.world.now in
     let nodes = c.in_ok-nodes-in-Ok.nodes in
     let line = rw c.classes.ensures.same at c.mro.ensures.line in
-    ends-after (λ t u. type_mro u c.args.args.now (bindings t c.args.kw.now)) (λ t u. sized_made u the_list (datum t (payload.List nodes))) w c.new_sized.new.world c.new_sized.result (λ t r.
+    ends-after (λ t u. type_mro u c.args.call.args.now (bindings t c.args.call.kw.now)) (λ t u. sized_made u the_list (datum t (payload.List nodes))) w c.new_sized.new.world c.new_sized.result (λ t r.
     let u = plain t w in
     c.in-Ok.ensures.given t (λ k. classes_made u (or_nothing (lin u.classes k)))
     ∙ ap (λ l. classes_made u (or_nothing l)) (line-seen w w refl t c.in-Ok.class.0 ∙ line)

@@ -10,6 +10,6 @@ returns-in-Err-clause-ends c = λ t r.
 pub returns-in_ok-text-in-Ok-clause-ends : goal.returns-in_ok-text-in-Ok-clause-ends
 returns-in_ok-text-in-Ok-clause-ends c =
     let w = c.args.world.now in
-    ends-after (λ t u. type_repr u c.args.args.now (bindings t c.args.kw.now)) (λ t u. text_made u (in_length (string_bytes c.in_ok-text-in-Ok.text))) w c.limited_text.new.world c.limited_text.result (λ t r.
+    ends-after (λ t u. type_repr u c.args.call.args.now (bindings t c.args.call.kw.now)) (λ t u. text_made u (in_length (string_bytes c.in_ok-text-in-Ok.text))) w c.limited_text.new.world c.limited_text.result (λ t r.
     let u = plain t w in
     c.in-Ok.ensures.given t (λ k. text_made u (class_text u k)) ∙ ap (text_made u) (c.in_ok-text-in-Ok.ensures t r)) c.limited_text.ensures.ends

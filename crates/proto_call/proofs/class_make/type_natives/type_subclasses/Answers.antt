@@ -23,7 +23,7 @@ returns-in_ok-nodes-in-Ok-clause-ends c =
     let w = c.args.world.now in
     let nodes = c.in_ok-nodes-in-Ok.nodes in
     let same = rw c.classes.ensures.same at c.subclasses.ensures in
-    ends-after (λ t u. type_subclasses u c.args.args.now (bindings t c.args.kw.now)) (λ t u. sized_made u the_list (datum t (payload.List nodes))) w c.new_sized.new.world c.new_sized.result (λ t r.
+    ends-after (λ t u. type_subclasses u c.args.call.args.now (bindings t c.args.call.kw.now)) (λ t u. sized_made u the_list (datum t (payload.List nodes))) w c.new_sized.new.world c.new_sized.result (λ t r.
     let u = plain t w in
     c.in-Ok.ensures.given t (λ k. classes_made u (subclasses u.classes k))
     ∙ ap (classes_made u) (subclasses-seen t w c.in-Ok.class.0 ∙ sym same)
