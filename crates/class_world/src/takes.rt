@@ -14,10 +14,10 @@ use py_node::{Cause, FuncArgs, OutOfMemory, Payload, PyObjectRef, PyStrInterned,
 /// The only argument, or why the arguments are refused.
 pub fn one(call: FuncArgs<'_>) -> Result<PyObjectRef, Raised>
     ensures given { IfOk result (λ o. (t : Reading) (w : PlainWorld) (go : Object → Said) →
-        with_one w call.args.now (bindings t call.kw.now) go ≡ go o) }
+        with_one w call.entry.args.now (bindings t call.entry.kw.now) go ≡ go o) }
     ensures refused { IfErr result (λ x. (t : Reading) (w : PlainWorld) (go : Object → Said) →
-        with_one w call.args.now (bindings t call.kw.now) go ≡ Ends w (Err x)) }
-    ensures node { IfOk result (λ o. (w : Held) → Holds w (AreNodes call.args.now) → Holds w (IsNode o)) }
+        with_one w call.entry.args.now (bindings t call.entry.kw.now) go ≡ Ends w (Err x)) }
+    ensures node { IfOk result (λ o. (w : Held) → Holds w (AreNodes call.entry.args.now) → Holds w (IsNode o)) }
 {
     match call.args {
         [o] => match keyword_refusal(call.kw) {
@@ -31,11 +31,11 @@ pub fn one(call: FuncArgs<'_>) -> Result<PyObjectRef, Raised>
 /// The two arguments, or why the arguments are refused.
 pub fn two(call: FuncArgs<'_>) -> Result<(PyObjectRef, PyObjectRef), Raised>
     ensures given { IfOk result (λ p. (t : Reading) (w : PlainWorld) (go : Object → Object → Said) →
-        with_two w call.args.now (bindings t call.kw.now) go ≡ go p.0 p.1) }
+        with_two w call.entry.args.now (bindings t call.entry.kw.now) go ≡ go p.0 p.1) }
     ensures refused { IfErr result (λ x. (t : Reading) (w : PlainWorld) (go : Object → Object → Said) →
-        with_two w call.args.now (bindings t call.kw.now) go ≡ Ends w (Err x)) }
-    ensures first { IfOk result (λ p. (w : Held) → Holds w (AreNodes call.args.now) → Holds w (IsNode p.0)) }
-    ensures second { IfOk result (λ p. (w : Held) → Holds w (AreNodes call.args.now) → Holds w (IsNode p.1)) }
+        with_two w call.entry.args.now (bindings t call.entry.kw.now) go ≡ Ends w (Err x)) }
+    ensures first { IfOk result (λ p. (w : Held) → Holds w (AreNodes call.entry.args.now) → Holds w (IsNode p.0)) }
+    ensures second { IfOk result (λ p. (w : Held) → Holds w (AreNodes call.entry.args.now) → Holds w (IsNode p.1)) }
 {
     match call.args {
         [o, a] => match keyword_refusal(call.kw) {
@@ -49,12 +49,12 @@ pub fn two(call: FuncArgs<'_>) -> Result<(PyObjectRef, PyObjectRef), Raised>
 /// The three arguments, or why the arguments are refused.
 pub fn three(call: FuncArgs<'_>) -> Result<(PyObjectRef, PyObjectRef, PyObjectRef), Raised>
     ensures given { IfOk result (λ p. (t : Reading) (w : PlainWorld) (go : Object → Object → Object → Said) →
-        with_three w call.args.now (bindings t call.kw.now) go ≡ go p.0 p.1 p.2) }
+        with_three w call.entry.args.now (bindings t call.entry.kw.now) go ≡ go p.0 p.1 p.2) }
     ensures refused { IfErr result (λ x. (t : Reading) (w : PlainWorld) (go : Object → Object → Object → Said) →
-        with_three w call.args.now (bindings t call.kw.now) go ≡ Ends w (Err x)) }
-    ensures first { IfOk result (λ p. (w : Held) → Holds w (AreNodes call.args.now) → Holds w (IsNode p.0)) }
-    ensures second { IfOk result (λ p. (w : Held) → Holds w (AreNodes call.args.now) → Holds w (IsNode p.1)) }
-    ensures third { IfOk result (λ p. (w : Held) → Holds w (AreNodes call.args.now) → Holds w (IsNode p.2)) }
+        with_three w call.entry.args.now (bindings t call.entry.kw.now) go ≡ Ends w (Err x)) }
+    ensures first { IfOk result (λ p. (w : Held) → Holds w (AreNodes call.entry.args.now) → Holds w (IsNode p.0)) }
+    ensures second { IfOk result (λ p. (w : Held) → Holds w (AreNodes call.entry.args.now) → Holds w (IsNode p.1)) }
+    ensures third { IfOk result (λ p. (w : Held) → Holds w (AreNodes call.entry.args.now) → Holds w (IsNode p.2)) }
 {
     match call.args {
         [o, a, b] => match keyword_refusal(call.kw) {

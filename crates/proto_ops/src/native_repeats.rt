@@ -76,7 +76,7 @@ fn begin_kind(
 ) -> Result<Step<RepeatKept>, OutOfMemory>
     requires args { Holds world.now (AreNodes call.args.now) }
     requires kind { kind_of entry ≡ Some kind }
-    ensures goes { IfOk result (λ step. Enters entry call.args.now call.kw.now world.now step) }
+    ensures goes { IfOk result (λ step. Enters entry call.entry.args.now call.entry.kw.now world.now step) }
     ensures safe { IfOk result (λ step. AllHold world.now (of_step of_repeat_kept step)) }
 {
     match caught(standing(world, kind, call.args))? {

@@ -29,9 +29,9 @@ pub fn own_number(world: &World, args: &[PyObjectRef]) -> Result<i128, Raised>
 pub fn lone_number(world: &World, call: FuncArgs<'_>) -> Result<(PyObjectRef, i128), Raised>
     requires { Holds world.now (AreNodes call.args.now) }
     ensures given { IfOk result (λ p. (t : Reading) (go : Object → ℤ → Said) →
-        with_lone_number (plain t world.now) call.args.now (bindings t call.kw.now) go ≡ go p.0 p.1) }
+        with_lone_number (plain t world.now) call.entry.args.now (bindings t call.entry.kw.now) go ≡ go p.0 p.1) }
     ensures refused { IfErr result (λ x. (t : Reading) (go : Object → ℤ → Said) →
-        with_lone_number (plain t world.now) call.args.now (bindings t call.kw.now) go ≡ Ends (plain t world.now) (Err x)) }
+        with_lone_number (plain t world.now) call.entry.args.now (bindings t call.entry.kw.now) go ≡ Ends (plain t world.now) (Err x)) }
     ensures node { IfOk result (λ p. Holds world.now (IsNode p.0)) }
 {
     let z = own_number(world, call.args)?;
@@ -43,9 +43,9 @@ pub fn lone_number(world: &World, call: FuncArgs<'_>) -> Result<(PyObjectRef, i1
 pub fn number_and(world: &World, call: FuncArgs<'_>) -> Result<(i128, PyObjectRef), Raised>
     requires { Holds world.now (AreNodes call.args.now) }
     ensures given { IfOk result (λ p. (t : Reading) (go : ℤ → Object → Said) →
-        with_number_and (plain t world.now) call.args.now (bindings t call.kw.now) go ≡ go p.0 p.1) }
+        with_number_and (plain t world.now) call.entry.args.now (bindings t call.entry.kw.now) go ≡ go p.0 p.1) }
     ensures refused { IfErr result (λ x. (t : Reading) (go : ℤ → Object → Said) →
-        with_number_and (plain t world.now) call.args.now (bindings t call.kw.now) go ≡ Ends (plain t world.now) (Err x)) }
+        with_number_and (plain t world.now) call.entry.args.now (bindings t call.entry.kw.now) go ≡ Ends (plain t world.now) (Err x)) }
     ensures node { IfOk result (λ p. Holds world.now (IsNode p.1)) }
 {
     let z = own_number(world, call.args)?;
@@ -77,9 +77,9 @@ pub fn numbers_of(
 pub fn numbers(world: &World, call: FuncArgs<'_>) -> Result<(i128, i128), Result<Answer, Raised>>
     requires { Holds world.now (AreNodes call.args.now) }
     ensures given { IfOk result (λ p. (t : Reading) (go : ℤ → ℤ → Said) →
-        with_numbers (plain t world.now) call.args.now (bindings t call.kw.now) go ≡ go p.0 p.1) }
+        with_numbers (plain t world.now) call.entry.args.now (bindings t call.entry.kw.now) go ≡ go p.0 p.1) }
     ensures ended { IfErr result (λ r. (t : Reading) (go : ℤ → ℤ → Said) →
-        with_numbers (plain t world.now) call.args.now (bindings t call.kw.now) go ≡ Ends (plain t world.now) (ended_of r)) }
+        with_numbers (plain t world.now) call.entry.args.now (bindings t call.entry.kw.now) go ≡ Ends (plain t world.now) (ended_of r)) }
     ensures holds { IfErr result (λ r. AllHold world.now (of_ended r)) }
 {
     match two(call) {

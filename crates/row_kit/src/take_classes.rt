@@ -47,9 +47,9 @@ pub fn own_class(world: &World, args: &[PyObjectRef]) -> Result<PyTypeRef, Raise
 pub fn lone_class(world: &World, call: FuncArgs<'_>) -> Result<PyTypeRef, Raised>
     requires { Holds world.now (AreNodes call.args.now) }
     ensures given { IfOk result (λ c. (t : Reading) (go : ℕ → Said) →
-        with_lone_class (plain t world.now) call.args.now (bindings t call.kw.now) go ≡ go c.0) }
+        with_lone_class (plain t world.now) call.entry.args.now (bindings t call.entry.kw.now) go ≡ go c.0) }
     ensures refused { IfErr result (λ x. (t : Reading) (go : ℕ → Said) →
-        with_lone_class (plain t world.now) call.args.now (bindings t call.kw.now) go ≡ Ends (plain t world.now) (Err x)) }
+        with_lone_class (plain t world.now) call.entry.args.now (bindings t call.entry.kw.now) go ≡ Ends (plain t world.now) (Err x)) }
     ensures class { IfOk result (λ c. Holds world.now (IsClass c.0)) }
 {
     let class = own_class(world, call.args)?;

@@ -22,7 +22,7 @@ pub fn arithmetic_native(
     call: FuncArgs<'_>,
 ) -> Result<Answer, Stop>
     requires { Holds world.old (AreNodes call.args.now) }
-    ensures ends { Ended result (EndsAs (λ t u. arithmetic_say u native call.args.now (bindings t call.kw.now))
+    ensures ends { Ended result (EndsAs (λ t u. arithmetic_say u native call.entry.args.now (bindings t call.entry.kw.now))
         world.old world.new) }
     ensures safe { LeavesEnd world.old world.new result }
 {
@@ -40,9 +40,9 @@ fn operands(
 ) -> Result<(i128, i128), Result<Answer, Raised>>
     requires { Holds world.now (AreNodes call.args.now) }
     ensures given { IfOk result (λ p. (t : Reading) (go : ℤ → ℤ → Said) →
-        with_operands (plain t world.now) native call.args.now (bindings t call.kw.now) go ≡ go p.0 p.1) }
+        with_operands (plain t world.now) native call.entry.args.now (bindings t call.entry.kw.now) go ≡ go p.0 p.1) }
     ensures ended { IfErr result (λ r. (t : Reading) (go : ℤ → ℤ → Said) →
-        with_operands (plain t world.now) native call.args.now (bindings t call.kw.now) go ≡
+        with_operands (plain t world.now) native call.entry.args.now (bindings t call.entry.kw.now) go ≡
         Ends (plain t world.now) (ended_of r)) }
     ensures holds { IfErr result (λ r. AllHold world.now (of_ended r)) }
 {
@@ -57,9 +57,9 @@ fn operands(
 fn powers(world: &World, call: FuncArgs<'_>) -> Result<(i128, i128), Result<Answer, Raised>>
     requires { Holds world.now (AreNodes call.args.now) }
     ensures given { IfOk result (λ p. (t : Reading) (go : ℤ → ℤ → Said) →
-        with_powers (plain t world.now) call.args.now (bindings t call.kw.now) go ≡ go p.0 p.1) }
+        with_powers (plain t world.now) call.entry.args.now (bindings t call.entry.kw.now) go ≡ go p.0 p.1) }
     ensures ended { IfErr result (λ r. (t : Reading) (go : ℤ → ℤ → Said) →
-        with_powers (plain t world.now) call.args.now (bindings t call.kw.now) go ≡ Ends (plain t world.now) (ended_of r)) }
+        with_powers (plain t world.now) call.entry.args.now (bindings t call.entry.kw.now) go ≡ Ends (plain t world.now) (ended_of r)) }
     ensures holds { IfErr result (λ r. AllHold world.now (of_ended r)) }
 {
     if call.args.len() != 3 {

@@ -16,7 +16,7 @@ use row_kit::take::numbers_of;
 /// A native on the bits of two numbers, or on two truth values.
 pub fn bits_native(world: &mut World, native: BitNative, call: FuncArgs<'_>) -> Result<Answer, Stop>
     requires { Holds world.old (AreNodes call.args.now) }
-    ensures ends { Ended result (EndsAs (λ t u. bits_say u native call.args.now (bindings t call.kw.now))
+    ensures ends { Ended result (EndsAs (λ t u. bits_say u native call.entry.args.now (bindings t call.entry.kw.now))
         world.old world.new) }
     ensures safe { LeavesEnd world.old world.new result }
 {

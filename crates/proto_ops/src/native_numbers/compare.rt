@@ -15,7 +15,7 @@ pub fn compare_native(
     call: FuncArgs<'_>,
 ) -> Result<Answer, Raised>
     requires { Holds world.now (AreNodes call.args.now) }
-    ensures ends { EndsAs (λ t u. compare_say u native call.args.now (bindings t call.kw.now)) world.now world.now result }
+    ensures ends { EndsAs (λ t u. compare_say u native call.entry.args.now (bindings t call.entry.kw.now)) world.now world.now result }
     ensures holds { AllHold world.now (of_ended result) }
 {
     if native == CompareNative::All {

@@ -16,7 +16,7 @@ pub fn fixed_native(
     native: FixedNative,
     call: FuncArgs<'_>,
 ) -> Result<Answer, Stop>
-    ensures ends { Ended result (EndsAs (λ t u. fixed_say u native call.args.now (bindings t call.kw.now))
+    ensures ends { Ended result (EndsAs (λ t u. fixed_say u native call.entry.args.now (bindings t call.entry.kw.now))
         world.old world.new) }
     ensures safe { LeavesEnd world.old world.new result }
 {
@@ -33,9 +33,9 @@ pub fn fixed_native(
 // Why the arguments are refused: just the native's own object is wanted.
 fn refusal(native: FixedNative, call: FuncArgs<'_>) -> Option<Raised>
     ensures taken { IfNone result ((t : Reading) (w : PlainWorld) (go : Said) →
-        with_fixed w (fixed_of native) call.args.now (bindings t call.kw.now) go ≡ go) }
+        with_fixed w (fixed_of native) call.entry.args.now (bindings t call.entry.kw.now) go ≡ go) }
     ensures refused { IfSome result (λ x. (t : Reading) (w : PlainWorld) (go : Said) →
-        with_fixed w (fixed_of native) call.args.now (bindings t call.kw.now) go ≡ Ends w (Err x)) }
+        with_fixed w (fixed_of native) call.entry.args.now (bindings t call.entry.kw.now) go ≡ Ends w (Err x)) }
 {
     if let Some(raised) = other_object(native, call.args) {
         return Some(raised);
