@@ -14,6 +14,7 @@ pub use Rattle.class_world.specs.Reading.{Reading, Reads, bindings, datum, ended
 pub use Rattle.plain_machine.specs.World.{datum_at, is_text, next_node, or_else_var, or_empty, ref, text_keys, with_new_class, with_node}
 pub use Rattle.proto_call.proofs.Below.{Does, Includes, by_keywords_of, by_place_of, eqb-true, ltb-true, opened_of, value-holds, with_value-holds, with_value-read}
 unfoldable pub use Rattle.proto_call.proofs.Below.{Holds, call_job_say, class_job_say, completed}
+pub use Rattle.proto_call.proofs.Caught.{sorted-ends, sorted-ok, sorted-raised}
 pub use Rattle.proto_call.proofs.ClassMake.Descriptors.{member-put, name-at, places-read, texting-begins, texting-refused, texting-step}
 pub use Rattle.proto_call.proofs.ClassMake.EachBase.{classing-step, node-holds, winning-ends, winning-none, winning-step}
 pub use Rattle.proto_call.proofs.ClassMake.Making.{attrs-read, filter-holds, goes-from, made-new, made-refused, made-slots, makes-from, map-got, node-at, refused-next, take-got, values-are, values-read, without-read}

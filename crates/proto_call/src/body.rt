@@ -89,7 +89,7 @@ fn by_place(
     requires node { Holds world.old (IsNode f) }
     requires function { AllHold world.old (of_function function.now) }
     requires args { AllHold world.old (of_args call.args.now call.kw.now) }
-    ensures goes { IfOk result (λ step. Enters (by_place_of function.now f call.args.now call.kw.now) world.old world.new step) }
+    ensures goes { IfOk result (λ step. Enters (by_place_of function.now f call.entry.args.now call.entry.kw.now) world.old world.new step) }
     ensures safe { LeavesOpen of_call_kept bodies_of 0 world.old world.new result }
 {
     let alloc = world.alloc();

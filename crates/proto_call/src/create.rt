@@ -44,8 +44,8 @@ pub(crate) fn begin_type_call(
 // The task that makes an object of a class, of these arguments.
 fn new_task(alloc: Global, class: PyTypeRef, call: FuncArgs<'_>) -> Result<Task, OutOfMemory>
     ensures task { IfOk result (λ task. (t : Reading) → task_of t task ≡
-        ToCall (DoNew class.0 class.0 call.args.now (bindings t call.kw.now))) }
-    ensures holds { IfOk result (λ task. (w : World) → AllHold w (IsClass class.0 ∷ of_args call.args.now call.kw.now) →
+        ToCall (DoNew class.0 class.0 call.entry.args.now (bindings t call.entry.kw.now))) }
+    ensures holds { IfOk result (λ task. (w : World) → AllHold w (IsClass class.0 ∷ of_args call.entry.args.now call.entry.kw.now) →
         AllHold w (of_task task)) }
 {
     let args = copy_args(alloc, call.args)?;

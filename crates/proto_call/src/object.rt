@@ -45,7 +45,7 @@ fn object_by(
     call: FuncArgs<'_>,
 ) -> Result<Step<CallKept>, OutOfMemory>
     requires { Holds world.old (AreNodes call.args.now) }
-    ensures goes { IfOk result (λ step. Does native (λ t u. object_by u native call.args.now (bindings t call.kw.now))
+    ensures goes { IfOk result (λ step. Does native (λ t u. object_by u native call.entry.args.now (bindings t call.entry.kw.now))
         world.old world.new step) }
     ensures safe { LeavesNone world.old world.new result }
 {
@@ -127,7 +127,7 @@ fn object_init(world: &World, args: &[PyObjectRef]) -> Step<CallKept>
 
 // What is done for a new class by default: nothing.
 fn object_init_subclass(world: &World, call: FuncArgs<'_>) -> Step<CallKept>
-    ensures goes { Closes (λ t u. object_init_subclass u call.args.now (bindings t call.kw.now)) world.now world.now result }
+    ensures goes { Closes (λ t u. object_init_subclass u call.entry.args.now (bindings t call.entry.kw.now)) world.now world.now result }
     ensures safe { OpensNone world.now result }
 {
     match one(call) {
@@ -143,7 +143,7 @@ fn object_get_attribute(
 ) -> Result<Step<CallKept>, OutOfMemory>
     requires { Holds world.old (AreNodes call.args.now) }
     ensures goes { IfOk result (λ step. Does object.GetAttribute
-        (λ t u. object_get_attribute u call.args.now (bindings t call.kw.now)) world.old world.new step) }
+        (λ t u. object_get_attribute u call.entry.args.now (bindings t call.entry.kw.now)) world.old world.new step) }
     ensures safe { LeavesNone world.old world.new result }
 {
     match two(call) {
@@ -158,7 +158,7 @@ fn object_get_attribute(
 // An attribute by its name, as objects set it.
 fn object_set_attr(world: &mut World, call: FuncArgs<'_>) -> Result<Step<CallKept>, OutOfMemory>
     requires { Holds world.old (AreNodes call.args.now) }
-    ensures goes { IfOk result (λ step. Does object.SetAttr (λ t u. object_set_attr u call.args.now (bindings t call.kw.now))
+    ensures goes { IfOk result (λ step. Does object.SetAttr (λ t u. object_set_attr u call.entry.args.now (bindings t call.entry.kw.now))
         world.old world.new step) }
     ensures safe { LeavesNone world.old world.new result }
 {
@@ -177,7 +177,7 @@ fn object_set_attr(world: &mut World, call: FuncArgs<'_>) -> Result<Step<CallKep
 // An attribute by its name, as objects take it out.
 fn object_del_attr(world: &mut World, call: FuncArgs<'_>) -> Result<Step<CallKept>, OutOfMemory>
     requires { Holds world.old (AreNodes call.args.now) }
-    ensures goes { IfOk result (λ step. Does object.DelAttr (λ t u. object_del_attr u call.args.now (bindings t call.kw.now))
+    ensures goes { IfOk result (λ step. Does object.DelAttr (λ t u. object_del_attr u call.entry.args.now (bindings t call.entry.kw.now))
         world.old world.new step) }
     ensures safe { LeavesNone world.old world.new result }
 {

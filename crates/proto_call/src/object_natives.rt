@@ -53,7 +53,7 @@ pub fn object_native(
     call: FuncArgs<'_>,
 ) -> Result<Answer, Stop>
     requires { Holds world.old (AreNodes call.args.now) }
-    ensures ends { Ended result (EndsAs (λ t u. object_native_say u native call.args.now (bindings t call.kw.now))
+    ensures ends { Ended result (EndsAs (λ t u. object_native_say u native call.entry.args.now (bindings t call.entry.kw.now))
         world.old world.new) }
     ensures safe { LeavesEnd world.old world.new result }
 {
@@ -72,7 +72,7 @@ pub fn object_native(
 // The text of an object: its class and its number.
 fn object_repr(world: &mut World, call: FuncArgs<'_>) -> Result<Answer, Stop>
     requires { Holds world.old (AreNodes call.args.now) }
-    ensures ends { Ended result (EndsAs (λ t u. object_repr u call.args.now (bindings t call.kw.now))
+    ensures ends { Ended result (EndsAs (λ t u. object_repr u call.entry.args.now (bindings t call.entry.kw.now))
         world.old world.new) }
     ensures safe { LeavesEnd world.old world.new result }
 {
@@ -83,7 +83,7 @@ fn object_repr(world: &mut World, call: FuncArgs<'_>) -> Result<Answer, Stop>
 
 // The hash of an object is its number, of 64 bits with their sign.
 fn object_hash(call: FuncArgs<'_>) -> Result<Answer, Raised>
-    ensures ends { (w : World) → EndsAs (λ t u. object_hash u call.args.now (bindings t call.kw.now)) w w result }
+    ensures ends { (w : World) → EndsAs (λ t u. object_hash u call.entry.args.now (bindings t call.entry.kw.now)) w w result }
     ensures holds { (w : Held) → AllHold w (of_ended result) }
 {
     let object = one(call)?;
@@ -92,7 +92,7 @@ fn object_hash(call: FuncArgs<'_>) -> Result<Answer, Raised>
 
 // An object is equal to itself. Of others the native says nothing.
 fn object_eq(world: &World, call: FuncArgs<'_>) -> Result<Answer, Raised>
-    ensures ends { EndsAs (λ t u. object_eq u call.args.now (bindings t call.kw.now)) world.now world.now result }
+    ensures ends { EndsAs (λ t u. object_eq u call.entry.args.now (bindings t call.entry.kw.now)) world.now world.now result }
     ensures holds { AllHold world.now (of_ended result) }
 {
     let (a, b) = two(call)?;
@@ -105,7 +105,7 @@ fn object_eq(world: &World, call: FuncArgs<'_>) -> Result<Answer, Raised>
 
 // Two objects of which the native says nothing.
 fn says_nothing(world: &World, call: FuncArgs<'_>) -> Result<Answer, Raised>
-    ensures ends { EndsAs (λ t u. says_nothing u call.args.now (bindings t call.kw.now)) world.now world.now result }
+    ensures ends { EndsAs (λ t u. says_nothing u call.entry.args.now (bindings t call.entry.kw.now)) world.now world.now result }
     ensures holds { AllHold world.now (of_ended result) }
 {
     let _both = two(call)?;

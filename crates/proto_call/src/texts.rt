@@ -17,7 +17,7 @@ use row_kit::questions::is_not_implemented;
 // The text of an object is that by which it is represented.
 pub(crate) fn object_str(world: &World, call: FuncArgs<'_>) -> Step<CallKept>
     requires { Holds world.now (AreNodes call.args.now) }
-    ensures goes { Does object.Str (λ t u. object_str u call.args.now (bindings t call.kw.now)) world.now world.now result }
+    ensures goes { Does object.Str (λ t u. object_str u call.entry.args.now (bindings t call.entry.kw.now)) world.now world.now result }
     ensures safe { OpensNone world.now result }
 {
     match one(call) {
@@ -29,7 +29,7 @@ pub(crate) fn object_str(world: &World, call: FuncArgs<'_>) -> Step<CallKept>
 // The text of an object by a specification, of which none is known but the empty one.
 pub(crate) fn object_format(world: &World, call: FuncArgs<'_>) -> Step<CallKept>
     requires { Holds world.now (AreNodes call.args.now) }
-    ensures goes { Does object.Format (λ t u. object_format u call.args.now (bindings t call.kw.now)) world.now world.now result }
+    ensures goes { Does object.Format (λ t u. object_format u call.entry.args.now (bindings t call.entry.kw.now)) world.now world.now result }
     ensures safe { OpensNone world.now result }
 {
     match two(call) {
@@ -50,7 +50,7 @@ pub(crate) fn object_format(world: &World, call: FuncArgs<'_>) -> Step<CallKept>
 // The names of an object's attributes.
 pub(crate) fn object_dir(world: &World, call: FuncArgs<'_>) -> Step<CallKept>
     requires { Holds world.now (AreNodes call.args.now) }
-    ensures goes { Does object.Dir (λ t u. object_dir u call.args.now (bindings t call.kw.now)) world.now world.now result }
+    ensures goes { Does object.Dir (λ t u. object_dir u call.entry.args.now (bindings t call.entry.kw.now)) world.now world.now result }
     ensures safe { OpensNone world.now result }
 {
     match one(call) {
@@ -62,7 +62,7 @@ pub(crate) fn object_dir(world: &World, call: FuncArgs<'_>) -> Step<CallKept>
 // Whether two objects are not equal: the class of the first is asked whether they are.
 pub(crate) fn object_ne(world: &World, call: FuncArgs<'_>) -> Step<CallKept>
     requires { Holds world.now (AreNodes call.args.now) }
-    ensures goes { Does object.Ne (λ t u. object_ne u call.args.now (bindings t call.kw.now)) world.now world.now result }
+    ensures goes { Does object.Ne (λ t u. object_ne u call.entry.args.now (bindings t call.entry.kw.now)) world.now world.now result }
     ensures safe { OpensNone world.now result }
 {
     match two(call) {

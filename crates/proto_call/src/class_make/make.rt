@@ -54,7 +54,7 @@ pub(crate) fn make_class(
 
 // The one argument, without keywords.
 fn one_of(call: FuncArgs<'_>) -> Option<PyObjectRef>
-    ensures { result ≡ one_of call.args.now call.kw.now }
+    ensures { result ≡ one_of call.entry.args.now call.entry.kw.now }
 {
     match call.args {
         [only] if call.kw.is_empty() => Some(*only),

@@ -22,7 +22,7 @@ use std::alloc::Global;
 /// The names of a class's attributes, its own and those that it inherits, as a new list.
 pub(crate) fn type_dir(world: &mut World, call: FuncArgs<'_>) -> Result<Answer, Stop>
     requires { Holds world.old (AreNodes call.args.now) }
-    ensures ends { Ended result (EndsAs (λ t u. type_dir u call.args.now (bindings t call.kw.now)) world.old world.new) }
+    ensures ends { Ended result (EndsAs (λ t u. type_dir u call.entry.args.now (bindings t call.entry.kw.now)) world.old world.new) }
     ensures safe { LeavesEnd world.old world.new result }
 {
     let class = lone_class(world, call)?;
@@ -70,9 +70,9 @@ pub(crate) fn class_and(
 ) -> Result<(PyTypeRef, PyObjectRef), Raised>
     requires { Holds world.now (AreNodes call.args.now) }
     ensures given { IfOk result (λ p. (t : Reading) (go : ℕ → Object → Said) →
-        with_class_and (plain t world.now) call.args.now (bindings t call.kw.now) go ≡ go p.0.0 p.1) }
+        with_class_and (plain t world.now) call.entry.args.now (bindings t call.entry.kw.now) go ≡ go p.0.0 p.1) }
     ensures refused { IfErr result (λ x. (t : Reading) (go : ℕ → Object → Said) →
-        with_class_and (plain t world.now) call.args.now (bindings t call.kw.now) go ≡ Ends (plain t world.now) (Err x)) }
+        with_class_and (plain t world.now) call.entry.args.now (bindings t call.entry.kw.now) go ≡ Ends (plain t world.now) (Err x)) }
     ensures class { IfOk result (λ p. Holds world.now (IsClass p.0.0)) }
     ensures node { IfOk result (λ p. Holds world.now (IsNode p.1)) }
 {
@@ -88,7 +88,7 @@ pub fn type_native(
     call: FuncArgs<'_>,
 ) -> Result<Answer, Stop>
     requires { Holds world.old (AreNodes call.args.now) }
-    ensures ends { Ended result (EndsAs (λ t u. type_native_say u native call.args.now (bindings t call.kw.now))
+    ensures ends { Ended result (EndsAs (λ t u. type_native_say u native call.entry.args.now (bindings t call.entry.kw.now))
         world.old world.new) }
     ensures safe { LeavesEnd world.old world.new result }
 {
@@ -108,7 +108,7 @@ pub fn type_native(
 // The text of a class.
 fn type_repr(world: &mut World, call: FuncArgs<'_>) -> Result<Answer, Stop>
     requires { Holds world.old (AreNodes call.args.now) }
-    ensures ends { Ended result (EndsAs (λ t u. type_repr u call.args.now (bindings t call.kw.now)) world.old world.new) }
+    ensures ends { Ended result (EndsAs (λ t u. type_repr u call.entry.args.now (bindings t call.entry.kw.now)) world.old world.new) }
     ensures safe { LeavesEnd world.old world.new result }
 {
     let class = lone_class(world, call)?;
@@ -119,7 +119,7 @@ fn type_repr(world: &mut World, call: FuncArgs<'_>) -> Result<Answer, Stop>
 // Whether the class of an object derives from a class.
 fn instance_check(world: &World, call: FuncArgs<'_>) -> Result<Answer, Raised>
     requires { Holds world.now (AreNodes call.args.now) }
-    ensures ends { EndsAs (λ t u. instance_check u call.args.now (bindings t call.kw.now)) world.now world.now result }
+    ensures ends { EndsAs (λ t u. instance_check u call.entry.args.now (bindings t call.entry.kw.now)) world.now world.now result }
     ensures holds { AllHold world.now (of_ended result) }
 {
     let (class, object) = class_and(world, call)?;
@@ -129,7 +129,7 @@ fn instance_check(world: &World, call: FuncArgs<'_>) -> Result<Answer, Raised>
 // Whether a class derives from another one.
 fn subclass_check(world: &World, call: FuncArgs<'_>) -> Result<Answer, Raised>
     requires { Holds world.now (AreNodes call.args.now) }
-    ensures ends { EndsAs (λ t u. subclass_check u call.args.now (bindings t call.kw.now)) world.now world.now result }
+    ensures ends { EndsAs (λ t u. subclass_check u call.entry.args.now (bindings t call.entry.kw.now)) world.now world.now result }
     ensures holds { AllHold world.now (of_ended result) }
 {
     let (class, other) = class_and(world, call)?;
@@ -142,7 +142,7 @@ fn subclass_check(world: &World, call: FuncArgs<'_>) -> Result<Answer, Raised>
 // The classes that have a class among their bases.
 fn type_subclasses(world: &mut World, call: FuncArgs<'_>) -> Result<Answer, Stop>
     requires { Holds world.old (AreNodes call.args.now) }
-    ensures ends { Ended result (EndsAs (λ t u. type_subclasses u call.args.now (bindings t call.kw.now))
+    ensures ends { Ended result (EndsAs (λ t u. type_subclasses u call.entry.args.now (bindings t call.entry.kw.now))
         world.old world.new) }
     ensures safe { LeavesEnd world.old world.new result }
 {
@@ -154,7 +154,7 @@ fn type_subclasses(world: &mut World, call: FuncArgs<'_>) -> Result<Answer, Stop
 // The linearisation of a class.
 fn type_mro(world: &mut World, call: FuncArgs<'_>) -> Result<Answer, Stop>
     requires { Holds world.old (AreNodes call.args.now) }
-    ensures ends { Ended result (EndsAs (λ t u. type_mro u call.args.now (bindings t call.kw.now)) world.old world.new) }
+    ensures ends { Ended result (EndsAs (λ t u. type_mro u call.entry.args.now (bindings t call.entry.kw.now)) world.old world.new) }
     ensures safe { LeavesEnd world.old world.new result }
 {
     let class = lone_class(world, call)?;

@@ -23,7 +23,7 @@ pub(crate) fn plain_native(
     call: FuncArgs<'_>,
 ) -> Result<Answer, Stop>
     requires { AllHold world.old (of_args call.args.now call.kw.now) }
-    ensures ends { Ended result (EndsAs (λ t u. native_by u entry call.args.now (bindings t call.kw.now))
+    ensures ends { Ended result (EndsAs (λ t u. native_by u entry call.entry.args.now (bindings t call.entry.kw.now))
         world.old world.new) }
     ensures safe { LeavesEnd world.old world.new result }
 {
