@@ -1,7 +1,7 @@
 //! What a native gives: a new object, a new number, or a new text.
 
 ghost use Rattle.py_node.specs.Stops.{Ended};
-ghost use Rattle.row_kit.specs.Below.{Ok, None, [], IfOk, string_bytes, place_of, holds_as, named_end, of_ended, Reading, datum, ended_of, AllHold, Holds, IsNode, class_in, home_of, of_payload, EndsAs, LeavesEnd};
+ghost use Rattle.row_kit.specs.Below.{Ok, None, [], string_bytes, place_of, holds_as, named_end, of_ended, Reading, datum, ended_of, AllHold, Holds, IsNode, class_in, home_of, of_payload, EndsAs, LeavesEnd};
 ghost use Rattle.std.specs.Prelude.{◌≡◌};
 ghost use Rattle.row_kit.specs.Say.{int_made, iterator_made, text_made, object_made, size_of, sized_made};
 

@@ -1,7 +1,7 @@
 //! Whole numbers as ints, their hashes, and the truth value that an object is.
 
 ghost use Rattle.py_node.specs.Stops.{Ended};
-ghost use Rattle.row_kit.specs.Below.{IfOk, Reading, plain, Holds, IsNode, class_at, EndsAs, LeavesEnd};
+ghost use Rattle.row_kit.specs.Below.{Reading, plain, Holds, IsNode, class_at, EndsAs, LeavesEnd};
 ghost use Rattle.std.specs.Prelude.{◌≡◌};
 ghost use Rattle.row_kit.specs.IntValues.{truth_of, as_int, is_int, number_hash};
 

@@ -1,7 +1,7 @@
 //! The whole number that a text spells.
 
 ghost use Rattle.py_node.specs.Stops.{Ended};
-ghost use Rattle.proto_object.specs.Below.{IfOk, is_ascii_digit, list_all, datum_at, EndsAs, LeavesEnd, Holds, IsNode};
+ghost use Rattle.proto_object.specs.Below.{is_ascii_digit, list_all, datum_at, EndsAs, LeavesEnd, Holds, IsNode};
 ghost use Rattle.std.specs.Prelude.{◌≡◌};
 ghost use Rattle.proto_object.specs.ProtoNumber.Numbers.{is_numeral, spelled, text_number, without_sign};
 

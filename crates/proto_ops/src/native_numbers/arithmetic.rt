@@ -1,9 +1,9 @@
 //! The natives that reckon with two numbers.
 
 ghost use Rattle.py_node.specs.Stops.{Ended};
-ghost use Rattle.proto_ops.specs.Below.{ℤ, IfOk, IfErr, Said, Ends, of_ended, Reading, bindings, ended_of, plain, AllHold, AreNodes, Holds, IsNode, EndsAs, LeavesEnd};
+ghost use Rattle.proto_ops.specs.Below.{ℤ, IfOk, IfErr, Said, Ends, of_ended, Reading, bindings, ended_of, plain, AllHold, AreNodes, Holds, EndsAs, LeavesEnd};
 ghost use Rattle.std.specs.Prelude.{◌≡◌};
-ghost use Rattle.proto_ops.specs.NativeNumbers.Say.{arithmetic_by, arithmetic_say, with_operands, with_powers, divided, pair_made};
+ghost use Rattle.proto_ops.specs.NativeNumbers.Say.{arithmetic_by, arithmetic_say, with_operands, with_powers, divided};
 
 use crate::native_numbers::reckon::{
     difference, floor_remainder, power, product, quotient, remainder,

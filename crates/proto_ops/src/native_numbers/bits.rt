@@ -1,7 +1,7 @@
 //! The natives on the bits of two numbers, or on two truth values.
 
 ghost use Rattle.py_node.specs.Stops.{Ended};
-ghost use Rattle.proto_ops.specs.Below.{IfOk, bindings, AreNodes, Holds, IsNode, EndsAs, LeavesEnd, truth_of};
+ghost use Rattle.proto_ops.specs.Below.{bindings, AreNodes, Holds, IsNode, EndsAs, LeavesEnd, truth_of};
 ghost use Rattle.std.specs.Prelude.{◌≡◌};
 ghost use Rattle.proto_ops.specs.NativeNumbers.Say.{bits_by, bits_of, bits_say, truth_by};
 

@@ -1,6 +1,6 @@
 //! The comparisons of numbers, by name.
 
-ghost use Rattle.proto_ops.specs.Below.{IfOk, Reading, bindings, of_ended, AllHold, AreNodes, Holds, EndsAs, LeavesEnd};
+ghost use Rattle.proto_ops.specs.Below.{bindings, of_ended, AllHold, AreNodes, Holds, EndsAs};
 ghost use Rattle.std.specs.Prelude.{◌≡◌};
 ghost use Rattle.proto_ops.specs.NativeNumbers.Say.{compare_say, order_by};
 

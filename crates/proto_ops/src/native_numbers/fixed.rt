@@ -1,7 +1,7 @@
 //! The natives of None and NotImplemented.
 
 ghost use Rattle.py_node.specs.Stops.{Ended};
-ghost use Rattle.proto_ops.specs.Below.{IfOk, Err, IfSome, IfNone, PlainWorld, Said, Ends, Reading, bindings, AreNodes, Holds, EndsAs, LeavesEnd};
+ghost use Rattle.proto_ops.specs.Below.{Err, IfSome, IfNone, PlainWorld, Said, Ends, Reading, bindings, EndsAs, LeavesEnd};
 ghost use Rattle.std.specs.Prelude.{◌≡◌};
 ghost use Rattle.proto_ops.specs.NativeNumbers.Say.{fixed_first, fixed_of, fixed_say, with_fixed};
 

@@ -1,7 +1,7 @@
 //! The natives of one number.
 
 ghost use Rattle.py_node.specs.Stops.{Ended};
-ghost use Rattle.proto_ops.specs.Below.{IfOk, bindings, AreNodes, Holds, IsNode, EndsAs, LeavesEnd, as_int};
+ghost use Rattle.proto_ops.specs.Below.{bindings, AreNodes, Holds, IsNode, EndsAs, LeavesEnd, as_int};
 ghost use Rattle.proto_ops.specs.NativeNumbers.Say.{number_by, number_say};
 
 use crate::native_numbers::reckon::{absolute, inverted, negated};

@@ -1,7 +1,7 @@
 //! Repetition by name.
 
 ghost use Rattle.py_node.specs.Stops.{IfRaised};
-ghost use Rattle.proto_ops.specs.Below.{[], Err, IfErr, IfOk, IfSome, Ok, option_map, Asks, Bindings, DoIndex, Ends, ReadObjects, ToProtocol, with_two, datum_at, Leaves, Reading, plain, AllHold, AreNodes, Holds, IsNode, sequence_for};
+ghost use Rattle.proto_ops.specs.Below.{[], Err, IfOk, IfSome, Ok, option_map, Asks, Bindings, DoIndex, Ends, ReadObjects, ToProtocol, with_two, datum_at, Leaves, Reading, plain, AllHold, AreNodes, Holds, IsNode, sequence_for};
 ghost use Rattle.std.specs.Prelude.{◌≡◌, ◌∷◌};
 ghost use Rattle.py_node.specs.declared.task.Answer.TheVariants as answer;
 ghost use Rattle.proto_ops.specs.NativeRepeats.Rows.{Resumes, of_repeat_kept};

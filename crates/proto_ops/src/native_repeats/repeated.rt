@@ -1,7 +1,7 @@
 //! What a repeated text, tuple or list is.
 
 ghost use Rattle.py_node.specs.Stops.{Ended, IfRaised};
-ghost use Rattle.proto_ops.specs.Below.{Err, IfErr, IfOk, List, string_bytes, repeat, PyObjectRef as Object, Text, Ends, PlainWorld, Said, Held, EndsAs, LeavesEnd, AllHold, AreNodes, Holding, Holds, IsNode, list_repeated, native_repeat, with_times};
+ghost use Rattle.proto_ops.specs.Below.{Err, IfOk, List, string_bytes, repeat, PyObjectRef as Object, Text, Ends, PlainWorld, Said, Held, EndsAs, LeavesEnd, AllHold, AreNodes, Holding, Holds, IsNode, list_repeated, native_repeat, with_times};
 ghost use Rattle.std.specs.Prelude.{◌≡◌};
 ghost use Rattle.py_node.specs.declared.built_in.BuiltIn.TheVariants.{List as ListClass};
 ghost use Rattle.py_node.specs.declared.entry.NativeEntry.TheVariants as entry;
