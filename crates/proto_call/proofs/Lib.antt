@@ -1,6 +1,5 @@
 pub mod Lemmas
 pub mod Below
-pub mod Caught
 pub mod Decide
 pub mod Filling
 pub mod Entered

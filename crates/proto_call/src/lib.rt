@@ -81,7 +81,10 @@ pub fn resume(
 {
     match kept {
         CallKept::Pass => Ok(Step::End(answer)),
-        CallKept::Named => Ok(Step::End(caught(as_object(world, answer))?)),
+        CallKept::Named => {
+            let ended = caught(as_object(world, answer))?;
+            Ok(Step::End(ended))
+        }
         CallKept::Native => Ok(native_end(world, answer)),
         CallKept::Unequal => Ok(equal_given(world, answer)),
         CallKept::Turned => match answer {

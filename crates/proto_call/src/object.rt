@@ -14,7 +14,10 @@ use crate::texts::{object_dir, object_format, object_ne, object_str};
 use class_world::takes::{one, three, two};
 use class_world::{Fixed, World};
 use py_node::task::{Args, Keywords};
-use py_node::{Answer, AttributeTask, BuiltIn, Cause, FuncArgs, Known, ObjectNative, OutOfMemory, Payload, PyObjectRef, PySetterValue, Raised, Step, Task, caught};
+use py_node::{
+    Answer, AttributeTask, BuiltIn, Cause, FuncArgs, Known, ObjectNative, OutOfMemory, Payload,
+    PyObjectRef, PySetterValue, Raised, Step, Task, caught,
+};
 
 /// A native of `object`.
 pub(crate) fn begin_object(
@@ -60,7 +63,10 @@ fn object_by(
         ObjectNative::Format => Ok(object_format(world, call)),
         ObjectNative::Dir => Ok(object_dir(world, call)),
         ObjectNative::Ne => Ok(object_ne(world, call)),
-        native => Ok(Step::End(caught(object_native(world, native, call))?)),
+        native => {
+            let ended = caught(object_native(world, native, call))?;
+            Ok(Step::End(ended))
+        }
     }
 }
 

@@ -10,7 +10,10 @@ use crate::class_make::ClassKept;
 use class_world::takes::{three, two};
 use class_world::{Fixed, World};
 use py_node::task::{Args, Keywords};
-use py_node::{Answer, AttributeTask, Cause, FuncArgs, OutOfMemory, PyObjectRef, PySetterValue, PyTypeRef, Raised, Step, Task, caught};
+use py_node::{
+    Answer, AttributeTask, Cause, FuncArgs, OutOfMemory, PyObjectRef, PySetterValue, PyTypeRef,
+    Raised, Step, Task, caught,
+};
 
 /// A class's attribute by its name, as classes read it.
 pub(crate) fn type_get_attribute(

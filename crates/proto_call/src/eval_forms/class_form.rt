@@ -11,7 +11,10 @@ use crate::eval_forms::keywords::{list_of, unrepeated, without};
 use class_world::World;
 use class_world::args::{copy_args, filled};
 use class_world::limits::is_within_limit;
-use py_node::{BuiltIn, CallTask, Cause, Known, OutOfMemory, Payload, PyAttributes, PyDict, PyObjectRef, PyStrInterned, Step, Task};
+use py_node::{
+    BuiltIn, CallTask, Cause, Known, OutOfMemory, Payload, PyAttributes, PyDict, PyObjectRef,
+    PyStrInterned, Step, Task,
+};
 
 // A class, with the values of its bases, of its keywords and of its entries.
 pub(crate) fn class_step(

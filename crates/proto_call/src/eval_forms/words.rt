@@ -12,7 +12,10 @@ use crate::eval_forms::tasks::task_for;
 use crate::eval_forms::{EvalKept, one_of};
 use class_world::World;
 use class_world::args::two_of;
-use py_node::{Answer, AttributeTask, Cause, ObjectTask, OutOfMemory, Payload, PyObjectRef, SlotId, Step, Task, Word, caught};
+use py_node::{
+    Answer, AttributeTask, Cause, ObjectTask, OutOfMemory, Payload, PyObjectRef, SlotId, Step,
+    Task, Word, caught,
+};
 
 // What the word says of the values of the operands.
 pub(crate) fn op_step(

@@ -1,4 +1,4 @@
-use Rattle.proto_call.proofs.Lemmas.{refl, sym, subst, bindings, New, Init, InitSubclass, object_by, object_new, object_init, object_init_subclass, Does, does-after, does}
+use Rattle.proto_call.proofs.Lemmas.{refl, sym, subst, bindings, New, Init, InitSubclass, object_by, object_new, object_init, object_init_subclass, Does, ◌∙◌, plain, EndsAs, object_native_say, does-after, does, ends-does, object-ends, sorted_ends}
 use Rattle.std.proofs.Common.{IfOk}
 use Rattle.proto_call.proofs.object.object_by.Goals as goal
 
@@ -54,3 +54,16 @@ pub returns-in-Ne-clause-goes : goal.returns-in-Ne-clause-goes
 returns-in-Ne-clause-goes c =
     let now = c.args.world.now in
     subst (λ n. Does n (λ t u. object_by u n c.args.call.args.now (bindings t c.args.call.kw.now)) now now c.object_ne.result) (sym c.in-Ne.is) c.object_ne.ensures.goes
+
+pub returns-in_ok-ended-in_default-clause-goes : goal.returns-in_ok-ended-in_default-clause-goes
+returns-in_ok-ended-in_default-clause-goes c =
+    let n = c.args.native in
+    let args = c.args.call.args.now in
+    let kw = c.args.call.kw.now in
+    let old = c.args.world.now in
+    let f = c.object_native in
+    let e = c.in_ok-ended-in_default in
+    let d = c.in_default in
+    let ends = sorted_ends f.result e.ended (EndsAs (λ t u. object_native_say u n args (bindings t kw)) old f.new.world) e.ensures f.ensures.ends in
+    ends-does n (λ t u. object_by u n args (bindings t kw)) old f.new.world e.ended (λ t q.
+    let k = ends t q in (k.0, object-ends (plain t old) n args (bindings t kw) d.not-New d.not-Init d.not-InitSubclass d.not-GetAttribute d.not-SetAttr d.not-DelAttr d.not-Str d.not-Format d.not-Dir d.not-Ne ∙ k.1))

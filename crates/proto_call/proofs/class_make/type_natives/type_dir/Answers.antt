@@ -10,7 +10,7 @@ new_sized-requires-clause-holds c =
     (subst (λ rs. Holds c.key_all.new.world (AreNodes rs)) (sym keys) c.in_ok-entries.ensures.holds.0, tt)
 
 pub returns-in_err-class-clause-ends : goal.returns-in_err-class-clause-ends
-returns-in_err-class-clause-ends c = 
+returns-in_err-class-clause-ends c =
     let p = err_from_is_err_and c.from_residual.result c.from_residual.ensures.1 in
     rw (p.1, p.2) (λ t r.
     let u = plain t c.args.world.now in

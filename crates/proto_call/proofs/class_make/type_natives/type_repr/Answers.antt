@@ -3,7 +3,7 @@ use Rattle.std.specs.Prelude.{string_bytes}
 use Rattle.proto_call.proofs.class_make.type_natives.type_repr.Goals as goal
 
 pub returns-in_err-class-clause-ends : goal.returns-in_err-class-clause-ends
-returns-in_err-class-clause-ends c = 
+returns-in_err-class-clause-ends c =
     let p = err_from_is_err_and c.from_residual.result c.from_residual.ensures.1 in
     rw (p.1, p.2) (λ t r.
     let u = plain t c.args.world.now in

@@ -13,7 +13,7 @@ class_nodes-requires c = λ x i.
     subclass-there c.args.world.now.classes c.in_ok-class.class.0 x (subst (λ cs. Includes cs x) same i)
 
 pub returns-in_err-class-clause-ends : goal.returns-in_err-class-clause-ends
-returns-in_err-class-clause-ends c = 
+returns-in_err-class-clause-ends c =
     let p = err_from_is_err_and c.from_residual.result c.from_residual.ensures.1 in
     rw (p.1, p.2) (λ t r.
     let u = plain t c.args.world.now in
