@@ -9,7 +9,7 @@ pub use Rattle.class_world.specs.Sound.{AllHold, AreNodes, Holding, Holds, IsNod
 pub use Rattle.native_containers.proofs.Below.{ANumber, AText, ATuple, ComparedKept, DoCollect, DoIndex, DoSpecial, End, Ends, Err, GetItem, Held, IfOk, IterEnd, MissingKey, NewBool, NewInt, NewStr, NewTuple, Next, Ok, ReadObjects, Reading, Some, Starts, ToAttribute, ToProtocol, Truth, Value, [], ap, append_assoc, arith, bindings, common_steps, compare_native_say, datum, datum_at, dict_filled, dict_updated, drop, ended_of, ends_none, entries_at, false, fault, fold, get_or, in_length, is_some, items_at, known_text, length, list_changed, most_items, names_set, nat_le, next_node, none, object_made, plain, pos, raised, ref, refl, remove, repr_text, slice_get, slice_range, slice_set, string_bytes, subst, suc, sym, take, take_all, the_int, the_str, value, with_node, ℕ, ◌∙◌}
 unfoldable pub use Rattle.native_containers.proofs.Below.{item_job_say}
 pub use Rattle.native_containers.proofs.Changed.{update-says}
-pub use Rattle.native_containers.proofs.Ends.{sorted-ends, sorted-ok, stop-ends, stop-safe, then-ended}
+pub use Rattle.native_containers.proofs.Ends.{stop-safe, then-ended}
 pub use Rattle.native_containers.proofs.Filled.{two-filled}
 pub use Rattle.native_containers.proofs.Loops.{keyword-holds}
 pub use Rattle.native_containers.proofs.NativeCompare.Begun.{begins-ok}
@@ -48,6 +48,7 @@ pub use Rattle.py_node.specs.Dicts.{PlainDict}
 pub use Rattle.py_node.specs.declared.protocol.ProtocolTask.TheVariants.{Collect, Index}
 pub use Rattle.py_node.specs.declared.task.Task.TheVariants.{Protocol}
 pub use Rattle.row_kit.proofs.ContainersPayloads.{no-entries, nodes-append}
+pub use Rattle.row_kit.proofs.Ended.{sorted_ends, sorted_ok, stop_ends}
 pub use Rattle.row_kit.specs.declared.take_containers.Kind.TheVariants.{Iterator, List}
 pub use Rattle.std.proofs.iter.TextItems.{spells}
 pub use Rattle.std.proofs.lemmas.Int.{ints, to_z-of_z}

@@ -1,4 +1,4 @@
-use Rattle.native_containers.proofs.Lemmas.{◌∙◌, plain, dict_updated, ends_none, err_from_is_err_and, stop-ends, stop-safe}
+use Rattle.native_containers.proofs.Lemmas.{◌∙◌, plain, dict_updated, ends_none, err_from_is_err_and, stop_ends, stop-safe}
 use Rattle.native_containers.proofs.dict.update.Goals as goal
 
 pub returns-in_err-update_from-clause-ends : goal.returns-in_err-update_from-clause-ends
@@ -6,13 +6,13 @@ returns-in_err-update_from-clause-ends c =
     let w = c.args.world.now in
     let e = c.in_err-update_from in
     let p = err_from_is_err_and c.from_residual-in_err-update_from.result c.from_residual-in_err-update_from.ensures.1 in
-    rw (p.1, p.2) (stop-ends _ e.field-0 _ _ (λ x k t q. (e.ensures.reads t q, c.in_ok-dict.ensures.given t (λ d o. dict_updated (plain t w) d o ends_none) ∙ k t ends_none)) e.ensures.refused)
+    rw (p.1, p.2) (stop_ends _ _ _ _ (λ x k t q. (e.ensures.reads t q, c.in_ok-dict.ensures.given t (λ d o. dict_updated (plain t w) d o ends_none) ∙ k t ends_none)) e.ensures.refused)
 
 pub returns-in_err-update_from-clause-safe : goal.returns-in_err-update_from-clause-safe
 returns-in_err-update_from-clause-safe c =
     let e = c.in_err-update_from in
     let p = err_from_is_err_and c.from_residual-in_err-update_from.result c.from_residual-in_err-update_from.ensures.1 in
-    rw (p.1, p.2) (e.ensures.grows, stop-safe c.update_from.new.world e.field-0)
+    rw (p.1, p.2) (e.ensures.grows, stop-safe c.update_from.new.world _)
 
 pub returns-in_err-ends_none-clause-ends : goal.returns-in_err-ends_none-clause-ends
 returns-in_err-ends_none-clause-ends c =

@@ -1,4 +1,4 @@
-use Rattle.native_containers.proofs.Lemmas.{length, ◌∙◌, arith, bindings, plain, all-grow, dict_filled, names_set, err_from_is_err_and, stop-ends, stop-safe, then-ended, two-filled}
+use Rattle.native_containers.proofs.Lemmas.{length, ◌∙◌, arith, bindings, plain, all-grow, dict_filled, names_set, err_from_is_err_and, stop_ends, stop-safe, then-ended, two-filled}
 use Rattle.std.proofs.Common.{◌≡◌}
 use Rattle.native_containers.proofs.init.fill.Goals as goal
 
@@ -11,13 +11,13 @@ returns-in_err-update_from-in-len2-clause-ends c =
     let e = c.in_err-update_from-in-len2 in
     let p = err_from_is_err_and c.from_residual-in_err-update_from-in-len2.result c.from_residual-in_err-update_from-in-len2.ensures.1 in
     let two : length a.call.args.now ≡ 2 = omega (arith, c.in-len2.len_at_least, c.in-len2.len_below) in
-    rw (p.1, p.2) (stop-ends _ e.field-0 _ _ (λ x k t q. (e.ensures.reads t q, two-filled (plain t a.world.now) a.dict a.call.args.now (bindings t a.call.kw.now) _ two ∙ k t (λ u. names_set u a.dict (bindings t a.call.kw.now)))) e.ensures.refused)
+    rw (p.1, p.2) (stop_ends _ _ _ _ (λ x k t q. (e.ensures.reads t q, two-filled (plain t a.world.now) a.dict a.call.args.now (bindings t a.call.kw.now) _ two ∙ k t (λ u. names_set u a.dict (bindings t a.call.kw.now)))) e.ensures.refused)
 
 pub returns-in_err-update_from-in-len2-clause-safe : goal.returns-in_err-update_from-in-len2-clause-safe
 returns-in_err-update_from-in-len2-clause-safe c =
     let e = c.in_err-update_from-in-len2 in
     let p = err_from_is_err_and c.from_residual-in_err-update_from-in-len2.result c.from_residual-in_err-update_from-in-len2.ensures.1 in
-    rw (p.1, p.2) (e.ensures.grows, stop-safe c.update_from.new.world e.field-0)
+    rw (p.1, p.2) (e.ensures.grows, stop-safe c.update_from.new.world _)
 
 pub returns-in_ok-update_from-in-len2-clause-ends : goal.returns-in_ok-update_from-in-len2-clause-ends
 returns-in_ok-update_from-in-len2-clause-ends c =

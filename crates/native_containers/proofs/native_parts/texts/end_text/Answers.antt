@@ -1,4 +1,4 @@
-use Rattle.native_containers.proofs.Lemmas.{ap, err_from_is_err_and, grows-itself, plain, stop-ends, stop-safe, text_made}
+use Rattle.native_containers.proofs.Lemmas.{ap, err_from_is_err_and, grows-itself, plain, stop_ends, stop-safe, text_made}
 use Rattle.native_containers.proofs.native_parts.texts.end_text.Goals as goal
 
 pub returns-in_err-text-clause-ends : goal.returns-in_err-text-clause-ends
@@ -6,10 +6,10 @@ returns-in_err-text-clause-ends c =
     let w = c.args.world.now in
     let e = c.in_err-text in
     let p = err_from_is_err_and c.from_residual-in_err-text.result c.from_residual-in_err-text.ensures.1 in
-    rw (p.1, p.2) (stop-ends _ e.field-0 _ _ (λ x k t q. (q, ap (text_made (plain t w)) (k t))) e.ensures.long)
+    rw (p.1, p.2) (stop_ends _ _ _ _ (λ x k t q. (q, ap (text_made (plain t w)) (k t))) e.ensures.long)
 
 pub returns-in_err-text-clause-safe : goal.returns-in_err-text-clause-safe
 returns-in_err-text-clause-safe c =
     let w = c.args.world.now in
     let p = err_from_is_err_and c.from_residual-in_err-text.result c.from_residual-in_err-text.ensures.1 in
-    rw (p.1, p.2) (grows-itself w, stop-safe w c.in_err-text.field-0)
+    rw (p.1, p.2) (grows-itself w, stop-safe w _)
