@@ -10,7 +10,7 @@ returns-in_err-all-in-Tuple-clause-ends c =
     let f = c.ranges.n in
     let refused = simp to_z-of_z at (rw c.deref.ensures.value at c.in_err-all-in-Tuple.ensures.refused) in
     let p = err_from_is_err_and c.from_residual.result c.from_residual.ensures.1 in
-    rw (p.1, p.2) (stop_ends _ _ (λ x. (u : PlainWorld) (go : List PyObjectRef → Said) → with_times u a.n rs go ≡ Ends u (Err x)) (EndsAs (λ t u. native_repeat u a.entry a.object a.n) w w) (λ x says t q.
+    rw (p.1, p.2) (stop_ends Said _ (λ x. (u : PlainWorld) (go : List PyObjectRef → Said) → with_times u a.n rs go ≡ Ends u (Err x)) (EndsAs (λ t u. native_repeat u a.entry a.object a.n) w w) (λ x says t q.
     (q, tuple-says (plain t w) c.in-OfTuple.field-0 a.entry a.object a.n rs (Err x) c.in-OfTuple.is (c.payload.ensures.reads t ∙ ap (λ p. Some (datum t p)) c.in-Tuple.is) tt says)) refused)
 
 pub returns-in_ok-all-in-Tuple-clause-ends : goal.returns-in_ok-all-in-Tuple-clause-ends

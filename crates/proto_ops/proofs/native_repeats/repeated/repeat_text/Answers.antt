@@ -10,7 +10,7 @@ returns-in_err-text-in-Text-clause-ends c =
     let f = c.ranges.n in
     let refused = simp to_z-of_z at (rw c.as_str.ensures.value at c.in_err-text-in-Text.ensures.refused) in
     let p = err_from_is_err_and c.from_residual.result c.from_residual.ensures.1 in
-    rw (p.1, p.2) (stop_ends _ _ (λ r. (u : PlainWorld) (go : Text → Said) → with_times u a.n x go ≡ Ends u (Err r)) (EndsAs (λ t u. native_repeat u (OfStr a.native) a.object a.n) w w) (λ r says t q.
+    rw (p.1, p.2) (stop_ends Said _ (λ r. (u : PlainWorld) (go : Text → Said) → with_times u a.n x go ≡ Ends u (Err r)) (EndsAs (λ t u. native_repeat u (OfStr a.native) a.object a.n) w w) (λ r says t q.
     (q, text-says (plain t w) a.native a.object a.n x (Ends (plain t w) (Err r)) (c.payload.ensures.reads t ∙ ap (λ p. Some (datum t p)) c.in-Text.is) (says (plain t w) (λ y. object_made (plain t w) the_str (AText y))))) refused)
 
 pub returns-in_ok-text-in-Text-clause-ends : goal.returns-in_ok-text-in-Text-clause-ends
