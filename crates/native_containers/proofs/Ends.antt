@@ -12,6 +12,6 @@ then-ended said other w mid new (Err (stop.Raised x)) says reads h = then-ends s
 then-ended said other w mid new (Err stop.OutOfMemory) says reads h = tt
 
 -- an end without a value names nothing
-pub stop-safe : (w : Held) (e : Stop) → Ended {Answer} (Err e) (λ r. AllHold w (of_ended r))
+pub stop-safe : (w : Held) (e : Stop) → Ended {T = Answer} (Err e) (λ r. AllHold w (of_ended r))
 stop-safe w (stop.Raised x) = tt
 stop-safe w stop.OutOfMemory = tt
