@@ -37,4 +37,4 @@ returns-in_ok-answer-in_default-clause-goes c =
     let e = c.in_ok-answer-in_default in
     let d = c.in_default in
     let ends = rw (c.deref.ensures.value, c.deref-in_default.ensures.value) at f.ensures.ends in
-    caught_goes class_job_say class_stands (λ t. fresh (DoType n args (bindings t kw))) (λ t u. type_native_say u n args (bindings t kw)) old f.new.world f.result e.answer e.ensures ends (λ t. type-ends (plain t old) n args (bindings t kw) d.not-New d.not-GetAttribute d.not-SetAttr d.not-DelAttr d.not-Call)
+    caught_goes class_job_say class_stands (λ t. fresh (DoType n args (bindings t kw))) (λ t u. type_native_say u n args (bindings t kw)) old f.new.world f.result e.answer e.ensures ends (λ t q. type-ends (plain t old) n args (bindings t kw) d.not-New d.not-GetAttribute d.not-SetAttr d.not-DelAttr d.not-Call)
