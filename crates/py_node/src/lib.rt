@@ -5,6 +5,7 @@ pub mod attr;
 pub mod attributes;
 pub mod attrs_of_callables;
 pub mod attrs_of_values;
+pub mod boxed;
 pub mod built_in;
 pub mod clone;
 pub mod dict;
@@ -31,6 +32,7 @@ pub mod task;
 
 pub use attr::Attr;
 pub use attributes::PyAttributes;
+pub use boxed::Boxed;
 pub use built_in::BuiltIn;
 pub use dict::{PyDict, PyDictKey};
 pub use entry::{
