@@ -68,20 +68,20 @@ fn call_held(
             NativeEntry::OfCallable(CallableNative::CallNativeFunction),
             Payload::NativeFunction(func),
         ) => {
-            let args = with_self(alloc, func.target, args)?;
-            Ok(Some(native_task(func.entry, args, kw)))
+            let args = with_self(alloc, func.get().target, args)?;
+            Ok(Some(native_task(func.get().entry, args, kw)))
         }
         (
             NativeEntry::OfCallable(CallableNative::CallBuiltinMethod),
             Payload::BuiltinMethod(method),
         ) => {
-            let args = bound(alloc, method.target, args)?;
-            Ok(Some(native_task(method.entry, args, kw)))
+            let args = bound(alloc, method.get().target, args)?;
+            Ok(Some(native_task(method.get().entry, args, kw)))
         }
         (
             NativeEntry::OfCallable(CallableNative::CallMethodDescriptor),
             Payload::MethodDescriptor(method),
-        ) => { Ok(Some(native_task(method.entry, args, kw))) }
+        ) => { Ok(Some(native_task(method.get().entry, args, kw))) }
         (NativeEntry::OfType(TypeNative::Call), Payload::Class(class)) => {
             Ok(Some(Task::Call(CallTask::TypeCall(*class, args, kw))))
         }

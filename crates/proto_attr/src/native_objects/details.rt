@@ -132,7 +132,7 @@ fn native_function_part(detail: Detail, payload: &Payload) -> Option<Part>
     ensures holds { (w : Held) → AllHold w (of_payload payload.now) → AllHold w (of_option of_part result) }
 {
     match payload {
-        Payload::NativeFunction(f) => native_part(detail, f.name, f.target),
+        Payload::NativeFunction(f) => native_part(detail, f.get().name, f.get().target),
         _ => None,
     }
 }
@@ -144,7 +144,7 @@ fn builtin_method_part(detail: Detail, payload: &Payload) -> Option<Part>
     ensures holds { (w : Held) → AllHold w (of_payload payload.now) → AllHold w (of_option of_part result) }
 {
     match payload {
-        Payload::BuiltinMethod(m) => native_part(detail, m.name, Some(m.target)),
+        Payload::BuiltinMethod(m) => native_part(detail, m.get().name, Some(m.get().target)),
         _ => None,
     }
 }
@@ -170,9 +170,9 @@ fn method_descriptor_part(detail: Detail, payload: &Payload) -> Option<Part>
 {
     match payload {
         Payload::MethodDescriptor(m) => match detail {
-            Detail::Doc => Some(doc_part(m.doc)),
-            Detail::TextSignature => Some(signature_part(m.name, m.doc)),
-            detail => in_class_part(detail, m.class, m.name),
+            Detail::Doc => Some(doc_part(m.get().doc)),
+            Detail::TextSignature => Some(signature_part(m.get().name, m.get().doc)),
+            detail => in_class_part(detail, m.get().class, m.get().name),
         },
         _ => None,
     }
@@ -186,8 +186,8 @@ fn getset_part(detail: Detail, payload: &Payload) -> Option<Part>
 {
     match payload {
         Payload::GetSet(g) => match detail {
-            Detail::Qualname => Some(Part::Whole(g.class, g.name)),
-            _ => in_class_part(detail, g.class, g.name),
+            Detail::Qualname => Some(Part::Whole(g.get().class, g.get().name)),
+            _ => in_class_part(detail, g.get().class, g.get().name),
         },
         _ => None,
     }
@@ -326,7 +326,7 @@ fn super_part(detail: Detail, payload: &Payload) -> Option<Part>
     ensures holds { (w : Held) → AllHold w (of_payload payload.now) → AllHold w (of_option of_part result) }
 {
     match payload {
-        Payload::Super(s) => looked_part(detail, *s),
+        Payload::Super(s) => looked_part(detail, *s.get()),
         _ => None,
     }
 }
@@ -355,7 +355,7 @@ fn slice_part(detail: Detail, payload: &Payload) -> Option<Part>
     ensures holds { (w : Held) → AllHold w (of_payload payload.now) → AllHold w (of_option of_part result) }
 {
     match payload {
-        Payload::Slice(s) => bounds_part(detail, *s),
+        Payload::Slice(s) => bounds_part(detail, *s.get()),
         _ => None,
     }
 }

@@ -58,10 +58,10 @@ fn bound(world: &World, s: PyObjectRef) -> Option<BoundSuper>
     ensures holds { AllHold world.now (of_option of_bound result) }
 {
     match world.payload(s) {
-        Payload::Super(parts) => match parts.obj {
+        Payload::Super(parts) => match parts.get().obj {
             None => None,
             Some((object, start)) => Some(BoundSuper {
-                class: parts.typ,
+                class: parts.get().typ,
                 object,
                 start,
             }),

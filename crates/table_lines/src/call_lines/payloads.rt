@@ -33,17 +33,19 @@ fn told(world: &World, payload: &Payload) -> Result<String, OutOfMemory>
     requires { AllHold world.now (of_payload payload.now) }
 {
     match payload {
-        Payload::NativeFunction(function) => match function.target {
-            None => named(world, "a function", function.name),
+        Payload::NativeFunction(function) => match function.get().target {
+            None => named(world, "a function", function.get().name),
             Some(target) => {
-                let text = named(world, "a function", function.name)?;
+                let text = named(world, "a function", function.get().name)?;
                 bound(world, text, target)
             }
         },
-        Payload::MethodDescriptor(method) => of_class(world, "a method", method.class, method.name),
+        Payload::MethodDescriptor(method) => {
+            of_class(world, "a method", method.get().class, method.get().name)
+        }
         Payload::BuiltinMethod(method) => {
-            let text = of_class(world, "a method", method.class, method.name)?;
-            bound(world, text, method.target)
+            let text = of_class(world, "a method", method.get().class, method.get().name)?;
+            bound(world, text, method.get().target)
         }
         Payload::Member(member) => of_class(world, "a member", member.class, member.name),
         Payload::ClassMethod(callable) => wrapped(world, "a class method", *callable),
