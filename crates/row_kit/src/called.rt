@@ -68,15 +68,17 @@ fn call_held(
             NativeEntry::OfCallable(CallableNative::CallNativeFunction),
             Payload::NativeFunction(func),
         ) => {
-            let args = with_self(alloc, func.get().target, args)?;
-            Ok(Some(native_task(func.get().entry, args, kw)))
+            let func = func.get();
+            let args = with_self(alloc, func.target, args)?;
+            Ok(Some(native_task(func.entry, args, kw)))
         }
         (
             NativeEntry::OfCallable(CallableNative::CallBuiltinMethod),
             Payload::BuiltinMethod(method),
         ) => {
-            let args = bound(alloc, method.get().target, args)?;
-            Ok(Some(native_task(method.get().entry, args, kw)))
+            let method = method.get();
+            let args = bound(alloc, method.target, args)?;
+            Ok(Some(native_task(method.entry, args, kw)))
         }
         (
             NativeEntry::OfCallable(CallableNative::CallMethodDescriptor),

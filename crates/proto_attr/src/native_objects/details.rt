@@ -132,7 +132,10 @@ fn native_function_part(detail: Detail, payload: &Payload) -> Option<Part>
     ensures holds { (w : Held) → AllHold w (of_payload payload.now) → AllHold w (of_option of_part result) }
 {
     match payload {
-        Payload::NativeFunction(f) => native_part(detail, f.get().name, f.get().target),
+        Payload::NativeFunction(f) => {
+            let f = f.get();
+            native_part(detail, f.name, f.target)
+        }
         _ => None,
     }
 }
@@ -144,7 +147,10 @@ fn builtin_method_part(detail: Detail, payload: &Payload) -> Option<Part>
     ensures holds { (w : Held) → AllHold w (of_payload payload.now) → AllHold w (of_option of_part result) }
 {
     match payload {
-        Payload::BuiltinMethod(m) => native_part(detail, m.get().name, Some(m.get().target)),
+        Payload::BuiltinMethod(m) => {
+            let m = m.get();
+            native_part(detail, m.name, Some(m.target))
+        }
         _ => None,
     }
 }
@@ -169,11 +175,14 @@ fn method_descriptor_part(detail: Detail, payload: &Payload) -> Option<Part>
     ensures holds { (w : Held) → AllHold w (of_payload payload.now) → AllHold w (of_option of_part result) }
 {
     match payload {
-        Payload::MethodDescriptor(m) => match detail {
-            Detail::Doc => Some(doc_part(m.get().doc)),
-            Detail::TextSignature => Some(signature_part(m.get().name, m.get().doc)),
-            detail => in_class_part(detail, m.get().class, m.get().name),
-        },
+        Payload::MethodDescriptor(m) => {
+            let m = m.get();
+            match detail {
+                Detail::Doc => Some(doc_part(m.doc)),
+                Detail::TextSignature => Some(signature_part(m.name, m.doc)),
+                detail => in_class_part(detail, m.class, m.name),
+            }
+        }
         _ => None,
     }
 }
@@ -185,10 +194,13 @@ fn getset_part(detail: Detail, payload: &Payload) -> Option<Part>
     ensures holds { (w : Held) → AllHold w (of_payload payload.now) → AllHold w (of_option of_part result) }
 {
     match payload {
-        Payload::GetSet(g) => match detail {
-            Detail::Qualname => Some(Part::Whole(g.get().class, g.get().name)),
-            _ => in_class_part(detail, g.get().class, g.get().name),
-        },
+        Payload::GetSet(g) => {
+            let g = g.get();
+            match detail {
+                Detail::Qualname => Some(Part::Whole(g.class, g.name)),
+                _ => in_class_part(detail, g.class, g.name),
+            }
+        }
         _ => None,
     }
 }

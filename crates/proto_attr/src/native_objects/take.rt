@@ -73,7 +73,10 @@ pub(crate) fn own_method(
     match args {
         [] => Err(Raised::new(Cause::ArgCount)),
         [o, ..] => match world.payload(*o) {
-            Payload::MethodDescriptor(m) => Ok((*o, (m.get().class, m.get().name))),
+            Payload::MethodDescriptor(m) => {
+                let m = m.get();
+                Ok((*o, (m.class, m.name)))
+            }
             _ => Err(Raised::new(Cause::SelfType)),
         },
     }

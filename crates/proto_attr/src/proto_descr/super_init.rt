@@ -30,7 +30,10 @@ pub(crate) fn super_init(
 {
     match parts(world, args.as_slice()) {
         Err(raised) => Ok(Step::End(Err(raised))),
-        Ok(parts) => init_with(world, s, parts),
+        Ok(parts) => {
+            let step = init_with(world, s, parts)?;
+            Ok(step)
+        }
     }
 }
 

@@ -110,16 +110,19 @@ pub fn unbound_super(world: &World, m: PyObjectRef, o: Option<PyObjectRef>) -> O
     ensures holds { AllHold world.now (of_option of_parts result) }
 {
     match (world.payload(m), o) {
-        (Payload::Super(parts), Some(object)) => match parts.get().obj {
-            Some(_) => None,
-            None => {
-                if object.0 == Fixed::None.node().0 {
-                    None
-                } else {
-                    Some((parts.get().typ, object))
+        (Payload::Super(parts), Some(object)) => {
+            let parts = parts.get();
+            match parts.obj {
+                Some(_) => None,
+                None => {
+                    if object.0 == Fixed::None.node().0 {
+                        None
+                    } else {
+                        Some((parts.typ, object))
+                    }
                 }
             }
-        },
+        }
         _ => None,
     }
 }

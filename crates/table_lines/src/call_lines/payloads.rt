@@ -33,19 +33,24 @@ fn told(world: &World, payload: &Payload) -> Result<String, OutOfMemory>
     requires { AllHold world.now (of_payload payload.now) }
 {
     match payload {
-        Payload::NativeFunction(function) => match function.get().target {
-            None => named(world, "a function", function.get().name),
-            Some(target) => {
-                let text = named(world, "a function", function.get().name)?;
-                bound(world, text, target)
+        Payload::NativeFunction(function) => {
+            let function = function.get();
+            match function.target {
+                None => named(world, "a function", function.name),
+                Some(target) => {
+                    let text = named(world, "a function", function.name)?;
+                    bound(world, text, target)
+                }
             }
-        },
+        }
         Payload::MethodDescriptor(method) => {
-            of_class(world, "a method", method.get().class, method.get().name)
+            let method = method.get();
+            of_class(world, "a method", method.class, method.name)
         }
         Payload::BuiltinMethod(method) => {
-            let text = of_class(world, "a method", method.get().class, method.get().name)?;
-            bound(world, text, method.get().target)
+            let method = method.get();
+            let text = of_class(world, "a method", method.class, method.name)?;
+            bound(world, text, method.target)
         }
         Payload::Member(member) => of_class(world, "a member", member.class, member.name),
         Payload::ClassMethod(callable) => wrapped(world, "a class method", *callable),

@@ -9,5 +9,5 @@ returns-in_ok-node-in-Ok-clause-ends c =
     let w = c.args.world.now in
     let e = c.in_ok-node-in-Ok.ensures in
     let given = rw c.in-Ok.is at c.heir.ensures.given in
-    let made = rw c.built_in-typ.ensures.place at e.made in
+    let made = rw (c.in_ok-parts-in-Ok.ensures, c.built_in-typ.ensures.place) at e.made in
     ends-made (λ t u. maker_say u built_in.Super c.args.args.now) w c.make_node.new.self c.in-Ok.class.0 (λ t. ASuper the_object None) c.in_ok-node-in-Ok.node (λ t q. given t (λ k. object_made (plain t w) k (ASuper the_object None))) made e.number e.reads
