@@ -13,8 +13,8 @@ use py_node::attr::OwnAttr;
 use py_node::built_in::built_ins;
 use py_node::own_attrs::attrs_of;
 use py_node::{
-    Boxed, BuiltIn, GetSet, MethodDescriptor, NativeEntry, NativeFunction, Node, OutOfMemory, Payload,
-    PyMethodFlags, PyObjectRef, PyStrInterned,
+    Boxed, BuiltIn, GetSet, MethodDescriptor, NativeEntry, NativeFunction, Node, OutOfMemory,
+    Payload, PyMethodFlags, PyObjectRef, PyStrInterned,
 };
 use std::alloc::Global;
 

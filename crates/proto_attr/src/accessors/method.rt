@@ -8,7 +8,8 @@ ghost use Rattle.proto_attr.specs.NativeDefs.Definitions.{as_method, definition_
 use crate::native_defs::PyMethodDef;
 use class_world::World;
 use py_node::{
-    Boxed, MethodDescriptor, NativeEntry, OutOfMemory, Payload, PyMethodFlags, PyStrInterned, PyTypeRef,
+    Boxed, MethodDescriptor, NativeEntry, OutOfMemory, Payload, PyMethodFlags, PyStrInterned,
+    PyTypeRef,
 };
 use std::alloc::Global;
 

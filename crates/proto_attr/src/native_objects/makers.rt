@@ -6,7 +6,9 @@ ghost use Rattle.std.specs.Prelude.{◌≡◌};
 ghost use Rattle.proto_attr.specs.NativeObjects.Makers.{maker_say};
 
 use class_world::World;
-use py_node::{Answer, Boxed, BuiltIn, Cause, Payload, PyDict, PyObjectRef, PyProperty, PySuper, Stop};
+use py_node::{
+    Answer, Boxed, BuiltIn, Cause, Payload, PyDict, PyObjectRef, PyProperty, PySuper, Stop,
+};
 use row_kit::take_classes::heir;
 
 /// A new object of the class that is the first argument: of a built-in class or of one that derives from it.

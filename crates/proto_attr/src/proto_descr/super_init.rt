@@ -14,8 +14,8 @@ use crate::proto_descr::super_start::Unbound;
 use class_world::{Fixed, World};
 use py_node::task::Args;
 use py_node::{
-    Answer, Boxed, Cause, DescriptorTask, OutOfMemory, Payload, PyObjectRef, PySuper, PyTypeRef, Raised, Step, Stop,
-    Task, caught,
+    Answer, Boxed, Cause, DescriptorTask, OutOfMemory, Payload, PyObjectRef, PySuper, PyTypeRef,
+    Raised, Step, Stop, Task, caught,
 };
 
 // A `super` is initialised with a class and an object, which it may find by itself.

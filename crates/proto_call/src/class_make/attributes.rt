@@ -7,8 +7,8 @@ ghost use Rattle.proto_call.specs.ClassMake.Rows.{Becomes};
 
 use class_world::{Fixed, World};
 use py_node::{
-    Boxed, BuiltIn, GetSet, Known, NativeEntry, OutOfMemory, Payload, Property, PyAttributes, PyObjectRef,
-    PyStrInterned, PyTypeRef,
+    Boxed, BuiltIn, GetSet, Known, NativeEntry, OutOfMemory, Payload, Property, PyAttributes,
+    PyObjectRef, PyStrInterned, PyTypeRef,
 };
 
 /// The attributes of a class of this name: class methods where its hooks are functions, a qualified name, and no hash
