@@ -15,7 +15,7 @@ pub use Rattle.native_containers.specs.NativeItems.Rows.{Does, Enters, getter_of
 unfoldable pub use Rattle.native_containers.specs.NativeItems.Say.{item_job_say}
 pub use Rattle.native_containers.specs.NativeParts.Makers.{asks_for, str_made, with_one_at_most}
 pub use Rattle.native_containers.specs.NativeParts.Numbers.{int_made_of, int_of_class}
-pub use Rattle.native_containers.specs.NativeParts.Rows.{IsNoNumber, IsNoObject, Resumes, Starts, Takes, TakesAt, answered, left, left_to_hash, parts_stands, repr_of, repr_of_wrapper}
+pub use Rattle.native_containers.specs.NativeParts.Rows.{Goes, IsNoNumber, IsNoObject, Resumes, Starts, left, left_to_hash, parts_group, parts_stands, repr_of, repr_of_wrapper}
 unfoldable pub use Rattle.native_containers.specs.NativeParts.Say.{parts_job_say}
 pub use Rattle.native_containers.specs.NativeParts.Texts.{before, closing, container_text, flattened, hash_row, kind_of, opening, parts_at, parts_in, repr_task, text_at, text_ends, text_row, texts_at, texts_from, wrapped_in, wrapper_by, wrapper_ends, wrapper_text}
 pub use Rattle.native_containers.specs.NativeTexts.Texts.{hashed_on, mark, repr_text, stands_in}
@@ -48,6 +48,8 @@ pub use Rattle.py_node.specs.declared.payload.Payload.{Payload}
 pub use Rattle.py_node.specs.declared.protocol.CompareTask.{CompareTask}
 pub use Rattle.py_node.specs.declared.refs.PyTypeRef.{PyTypeRef}
 pub use Rattle.py_node.specs.declared.task.Answer.TheVariants.{Method, Number, Truth, Value}
+pub use Rattle.row_kit.proofs.Points.{asks-follow, ends-follow, goes-as, goes-noting, ok-map, read-follows}
+pub use Rattle.row_kit.specs.Points.{Point}
 pub use Rattle.row_kit.proofs.ContainersEnds.{Saying, then-ends}
 pub use Rattle.row_kit.proofs.ContainersLoops.{next}
 pub use Rattle.std.proofs.Common.{Bool, Err, IfOk, List, None, Ok, Option, Result, Some, [], add-one, ap, append-nil, append_assoc, ap₂, arith, cond, drop, eqb, false, fold, get_or, inl, inr, length, length-append, map, nat_lt, pos, refl, string_bytes, subst, suc, sym, take, take_all, tests, true, zero, zip, ℕ, ℤ, ◌∙◌}

@@ -10,7 +10,7 @@ pub use Rattle.plain_machine.specs.Dicts.{Entries, has_place, is_like, with_entr
 pub use Rattle.plain_machine.specs.Known.{the_int, the_list, the_str}
 pub use Rattle.plain_machine.specs.Objects.{class_object, with_datum}
 pub use Rattle.plain_machine.specs.Plain.{AClassMethod, ADict, AList, ANumber, ASlice, AStaticMethod, AText, ATuple, AnIterator, Answered, AsObjects, AsValue, Asks, Bindings, CompareJob, Datum, DoCollect, DoHash, DoIdEq, DoIndex, DoIsTrue, DoRepr, DoSeqGt, DoSeqLt, DoSpecial, DoStr, DoWhole, Ended, Ends, Fact, PlainTask, PlainWorld, ReadObjects, Said, ToAttribute, ToCompare, ToNative, ToObject, ToProtocol, Told}
-pub use Rattle.plain_machine.specs.Row.{Row, ask, elsewhere, end, fault, most_items, none, not_implemented, on_maybe, on_truth, on_value, pass, read_objects, start, truth, value}
+pub use Rattle.plain_machine.specs.Row.{Row, ask, elsewhere, end, fault, most_items, none, on_number, not_implemented, on_maybe, on_truth, on_value, pass, read_objects, start, truth, value}
 pub use Rattle.plain_machine.specs.Rows.{Pending, fresh}
 pub use Rattle.plain_machine.specs.Sound.{key_at}
 pub use Rattle.plain_machine.specs.Takes.{with_one, with_text, with_three, with_two, without_keywords}

@@ -1,7 +1,8 @@
 -- How the step from a point of a row follows from what is said there.
-use Rattle.row_kit.proofs.Below.{[], ap, append_assoc, ◌∙◌, refl, sym, subst, Result, Raised as Fault, Answer, End, PlainWorld, Said, Ends, World, Reading, EndsAs}
+use Rattle.row_kit.proofs.Below.{[], Ok, Err, IfOk, ap, append_assoc, ◌∙◌, refl, sym, subst, Result, Raised as Fault, Answer, End, PlainWorld, Said, Ends, World, Reading, EndsAs}
 use Rattle.std.proofs.Common.{◌≡◌, ◌++◌, ◌∷◌}
-use Rattle.plain_machine.specs.Plain.{Told, Ended, Asks, Answered}
+use Rattle.plain_machine.specs.Plain.{Told, Ended, Asks, Answered, Fact}
+use Rattle.plain_machine.specs.Row.{noting}
 use Rattle.class_world.specs.Rows as rows
 use Rattle.py_node.specs.declared.task.Task.{Task}
 use Rattle.py_node.specs.declared.task.Step.{Step}
@@ -34,6 +35,30 @@ steps-on stands t row other same (Asks w learnt task) (Ask asked kept) new h = (
 steps-on stands t row other same (Asks w learnt task) (End r) new h = h
 steps-on stands t row other same (Ends w r) (Ask asked kept) new h = h
 steps-on stands t row other same (Ends w r) (End s) new h = h
+
+-- a row that notes a fact first, and then goes on as another
+steps-noting : {K : Type 0} (stands : K → Ended → Point) (t : Reading) (row whole : Point) (fact : Fact) → ((u : PlainWorld) (more : Told) → whole u (fact ∷ more) ≡ row u more) → (said : Said) (step : Step K) (new : World) → Steps stands t row said step new → Steps stands t whole (noting fact said) step new
+steps-noting stands t row whole fact on (Asks w learnt task) (Ask asked kept) new h = (h.0, h.1, λ u r more. on u (learnt ++ Answered r ∷ more) ∙ h.2 u r more)
+steps-noting stands t row whole fact on (Asks w learnt task) (End r) new h = h
+steps-noting stands t row whole fact on (Ends w r) (Ask asked kept) new h = h
+steps-noting stands t row whole fact on (Ends w r) (End s) new h = h
+
+module _ {T K : Type 0} (g : Group T K) (row whole : Reading → Point) where
+  pub goes-noting : (fact : Fact) → ((t : Reading) (u : PlainWorld) (more : Told) → whole t u (fact ∷ more) ≡ row t u more) → (old new : World) (step : Step K) → ((t : Reading) → whole t (plain t old) [] ≡ noting fact (row t (plain t old) [])) → Goes g row old new step → Goes g whole old new step
+  goes-noting fact on old new step says h = λ t q.
+      let k = h t q in
+      (k.0, subst (λ s. Steps (g.stands t) t (whole t) s step new) (sym (says t)) (steps-noting (g.stands t) t (row t) (whole t) fact (on t) (row t (plain t old) []) step new k.1))
+
+  pub goes-as : ((t : Reading) (u : PlainWorld) (more : Told) → whole t u more ≡ row t u more) → (old new : World) (step : Step K) → Goes g row old new step → Goes g whole old new step
+  goes-as same old new step h = λ t q.
+      let k = h t q in
+      let u = plain t old in
+      (k.0, steps-on (g.stands t) t (whole t) (row t) (same t) (whole t u []) step new (subst (λ s. Steps (g.stands t) t (row t) s step new) (sym (same t u [])) k.1))
+
+-- what follows of each step, where there is one
+pub ok-map : {A E : Type 0} (P Q : A → Type 0) (r : Result A E) → ((x : A) → P x → Q x) → IfOk r P → IfOk r Q
+ok-map P Q (Ok x) f h = f x h
+ok-map P Q (Err e) f h = tt
 
 -- what a group's row does is what it does among all
 module _ {T U K A : Type 0} (own : Group T K) (all : Group U A) (for : K → A) (keeps : (t : Reading) (k : K) (r : Ended) (u : PlainWorld) (more : Told) → all.stands t (for k) r u more ≡ own.stands t k r u more) where

@@ -36,7 +36,7 @@ pub items-family : AmongNatives family.Items (as_points item_group) ForItems
 unfolding item_job_say
 items-family = record { says = λ t n args kw u more. refl; keeps = λ t k r u more. refl }
 
-pub parts-family : AmongNatives family.Parts (as_points parts_group) ForParts
+pub parts-family : AmongNatives family.Parts parts_group ForParts
 unfolding parts_job_say
 parts-family = record { says = λ t n args kw u more. refl; keeps = λ t k r u more. refl }
 

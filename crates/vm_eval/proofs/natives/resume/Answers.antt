@@ -1,4 +1,4 @@
-use Rattle.vm_eval.proofs.Lemmas.{family-resumes, items-family, parts-family, comparisons-family, repeats-family, details-family, calls-family, item_group, parts_group, compared_group, repeat_group, old-resumes}
+use Rattle.vm_eval.proofs.Lemmas.{family-resumes, items-family, parts-family, comparisons-family, repeats-family, details-family, calls-family, item_group, compared_group, repeat_group, old-resumes}
 use Rattle.vm_eval.specs.declared.natives.NativesKept.TheVariants.{ForItems}
 use Rattle.vm_eval.proofs.natives.resume.Goals as goal
 
@@ -10,7 +10,7 @@ returns-in_ok-step-in-ForItems-clause-goes c =
 pub returns-in_ok-step-in-ForParts-clause-goes : goal.returns-in_ok-step-in-ForParts-clause-goes
 returns-in_ok-step-in-ForParts-clause-goes c =
     let step = c.in_ok-step-in-ForParts in
-    family-resumes parts-family c.args.kept c.in-ForParts.kept c.args.answer _ _ step.step c.of_parts.result c.in-ForParts.is c.of_parts.ensures.step (old-resumes parts_group c.in-ForParts.kept c.args.answer _ _ step.step step.ensures.goes)
+    family-resumes parts-family c.args.kept c.in-ForParts.kept c.args.answer _ _ step.step c.of_parts.result c.in-ForParts.is c.of_parts.ensures.step step.ensures.goes
 
 pub returns-in_ok-step-in-ForComparisons-clause-goes : goal.returns-in_ok-step-in-ForComparisons-clause-goes
 returns-in_ok-step-in-ForComparisons-clause-goes c =
