@@ -11,7 +11,7 @@ made-so said old new c d r says made number = λ t.
 
 -- the row of a native
 abbrev of_native : NativeEntry → List PyObjectRef → List (PyStrInterned × PyObjectRef) → Reading → Point
-of_native n args kw t u = parts_job_say u (ToNative n args (bindings t kw))
+of_native n args kw = λ t u. parts_job_say u (ToNative n args (bindings t kw))
 
 module _ (n : NativeEntry) (args : List PyObjectRef) (kw : List (PyStrInterned × PyObjectRef)) where
   -- a native that ends

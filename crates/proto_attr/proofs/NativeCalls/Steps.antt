@@ -33,7 +33,7 @@ taken-steps said other old new (Err x) same h = tt
 
 -- the row of a native
 abbrev of_native : NativeEntry → List PyObjectRef → (Reading → Bindings) → Reading → Point
-of_native n args kw t u = asking_job_say u (ToNative n args (kw t))
+of_native n args kw = λ t u. asking_job_say u (ToNative n args (kw t))
 
 -- a native that ends at once
 pub ends-does : (n : NativeEntry) (said : Reading → PlainWorld → Said) (w : World) (r : Result Answer Fault) → ((t : Reading) → said t (plain t w) ≡ Ends (plain t w) (ended_of r)) → Does n said w w (End r)
