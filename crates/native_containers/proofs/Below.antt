@@ -5,7 +5,7 @@ pub use Rattle.class_world.specs.Reading.{Reading, Reads, bindings, compare_job,
 unfoldable pub use Rattle.class_world.specs.Sound.{Holds}
 pub use Rattle.native_containers.specs.Below.{AllHold, Answer, AreNodes, Ask, CompareNative, End, EndsAs, GetItem, Grows, Held, IdEq, IfErr, IsName, IsNode, IsUtf8, IterEnd, Kind, MissingKey, NativeEntry, NewOf, Next, OfIterator, OfList, OfTuple, PyObjectRef, PySlice, PyStrInterned, Raised, SelfType, SequenceIterator, Step, Steps, Task, Text, TooLong, Vec, World, as_said, class_object, datum_at, each_value, encode_utf8, entries_at, in_length, is_of, is_plain, is_some, items_at, keys_of, known_text, max, nat_le, next_node, number_hash, number_of, object_made, of_binding, of_each, of_keyed, option_and_then, option_map, ref, slice_get, slice_range, slice_set, text_made, the_int, the_str, value_of, w64, with_datum, with_heir, with_node, with_one, with_own, with_three, with_two}
 pub use Rattle.native_containers.specs.NativeCompare.Containers.{Objects, Pairs, asked, both_read, by_turns, in_turn, items_compared, turns_of, values_under, with_items}
-pub use Rattle.native_containers.specs.NativeCompare.Rows.{Begins, Compares, Comparing, StepsAt, TakesTurn, Turning, compared_stands, even, firsts, seconds}
+pub use Rattle.native_containers.specs.NativeCompare.Rows.{Begins, Compares, TakesTurn, compared_group, compared_stands}
 pub use Rattle.native_containers.specs.NativeCompare.Say.{compare_native_say}
 unfoldable pub use Rattle.native_containers.specs.NativeCompare.Say.{compared_job_say}
 pub use Rattle.native_containers.specs.NativeItems.Items.{del_asked, del_item, del_rest, extend, extend_rest, get_item, index_asked, is_among, is_number, item_asked, item_got, look_for, placed, set_asked, set_item, set_rest, stood}
@@ -48,7 +48,7 @@ pub use Rattle.py_node.specs.declared.payload.Payload.{Payload}
 pub use Rattle.py_node.specs.declared.protocol.CompareTask.{CompareTask}
 pub use Rattle.py_node.specs.declared.refs.PyTypeRef.{PyTypeRef}
 pub use Rattle.py_node.specs.declared.task.Answer.TheVariants.{Method, Number, Truth, Value}
-pub use Rattle.row_kit.proofs.Points.{asks-follow, ends-follow, goes-as, goes-noting, ok-map, read-follows}
+pub use Rattle.row_kit.proofs.Points.{asks-follow, ends-follow, goes-as, goes-noting, ok-map, read-follows, steps-noting}
 pub use Rattle.row_kit.specs.Points.{Point}
 pub use Rattle.row_kit.proofs.ContainersEnds.{Saying, then-ends}
 pub use Rattle.row_kit.proofs.ContainersLoops.{next}

@@ -40,7 +40,7 @@ pub parts-family : AmongNatives family.Parts parts_group ForParts
 unfolding parts_job_say
 parts-family = record { says = λ t n args kw u more. refl; keeps = λ t k r u more. refl }
 
-pub comparisons-family : AmongNatives family.Comparisons (as_points compared_group) ForComparisons
+pub comparisons-family : AmongNatives family.Comparisons compared_group ForComparisons
 unfolding compared_job_say
 comparisons-family = record { says = λ t n args kw u more. refl; keeps = λ t k r u more. refl }
 

@@ -1,4 +1,4 @@
-use Rattle.vm_eval.proofs.Lemmas.{◌∙◌, sym, family-begins, plain-begins, items-family, parts-family, comparisons-family, repeats-family, details-family, calls-family, item_group, compared_group, repeat_group, old-begins}
+use Rattle.vm_eval.proofs.Lemmas.{◌∙◌, sym, family-begins, plain-begins, items-family, parts-family, comparisons-family, repeats-family, details-family, calls-family, item_group, repeat_group, old-begins}
 use Rattle.py_node.specs.declared.task.Task.TheVariants as task
 use Rattle.vm_eval.proofs.natives.begin.Goals as goal
 
@@ -18,7 +18,7 @@ pub returns-in_ok-step-in-Comparisons-clause-goes : goal.returns-in_ok-step-in-C
 returns-in_ok-step-in-Comparisons-clause-goes c =
     let a = c.args in
     let step = c.in_ok-step-in-Comparisons in
-    family-begins comparisons-family a.entry a.args a.kw _ _ step.step c.of_comparisons.result (sym c.family_of.ensures ∙ c.in-Comparisons.is) c.of_comparisons.ensures.step (old-begins compared_group (task.Native a.entry a.args a.kw) _ _ step.step step.ensures.goes)
+    family-begins comparisons-family a.entry a.args a.kw _ _ step.step c.of_comparisons.result (sym c.family_of.ensures ∙ c.in-Comparisons.is) c.of_comparisons.ensures.step step.ensures.goes
 
 pub returns-in_ok-step-in-Repeats-clause-goes : goal.returns-in_ok-step-in-Repeats-clause-goes
 returns-in_ok-step-in-Repeats-clause-goes c =

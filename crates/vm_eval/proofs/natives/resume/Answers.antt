@@ -1,4 +1,4 @@
-use Rattle.vm_eval.proofs.Lemmas.{family-resumes, items-family, parts-family, comparisons-family, repeats-family, details-family, calls-family, item_group, compared_group, repeat_group, old-resumes}
+use Rattle.vm_eval.proofs.Lemmas.{family-resumes, items-family, parts-family, comparisons-family, repeats-family, details-family, calls-family, item_group, repeat_group, old-resumes}
 use Rattle.vm_eval.specs.declared.natives.NativesKept.TheVariants.{ForItems}
 use Rattle.vm_eval.proofs.natives.resume.Goals as goal
 
@@ -15,7 +15,7 @@ returns-in_ok-step-in-ForParts-clause-goes c =
 pub returns-in_ok-step-in-ForComparisons-clause-goes : goal.returns-in_ok-step-in-ForComparisons-clause-goes
 returns-in_ok-step-in-ForComparisons-clause-goes c =
     let step = c.in_ok-step-in-ForComparisons in
-    family-resumes comparisons-family c.args.kept c.in-ForComparisons.kept c.args.answer _ _ step.step c.of_comparisons.result c.in-ForComparisons.is c.of_comparisons.ensures.step (old-resumes compared_group c.in-ForComparisons.kept c.args.answer _ _ step.step step.ensures.goes)
+    family-resumes comparisons-family c.args.kept c.in-ForComparisons.kept c.args.answer _ _ step.step c.of_comparisons.result c.in-ForComparisons.is c.of_comparisons.ensures.step step.ensures.goes
 
 pub returns-in_ok-step-in-ForRepeats-clause-goes : goal.returns-in_ok-step-in-ForRepeats-clause-goes
 returns-in_ok-step-in-ForRepeats-clause-goes c =
