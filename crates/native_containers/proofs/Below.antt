@@ -11,7 +11,7 @@ unfoldable pub use Rattle.native_containers.specs.NativeCompare.Say.{compared_jo
 pub use Rattle.native_containers.specs.NativeItems.Items.{del_asked, del_item, del_rest, extend, extend_rest, get_item, index_asked, is_among, is_number, item_asked, item_got, look_for, placed, set_asked, set_item, set_rest, stood}
 pub use Rattle.native_containers.specs.NativeItems.Iterators.{found_in, item_found, moved_past, next_in, next_place, with_place}
 pub use Rattle.native_containers.specs.NativeItems.Places.{place_at, put_between, slice_at}
-pub use Rattle.native_containers.specs.NativeItems.Rows.{Does, Enters, getter_of, item_stands, items_stood, made_as, next_asked, of_found, searcher_of, stood_told}
+pub use Rattle.native_containers.specs.NativeItems.Rows.{Does, Enters, getter_of, item_group, item_stands, items_stood, made_as, next_asked, of_found, searcher_of, stood_told}
 unfoldable pub use Rattle.native_containers.specs.NativeItems.Say.{item_job_say}
 pub use Rattle.native_containers.specs.NativeParts.Makers.{asks_for, str_made, with_one_at_most}
 pub use Rattle.native_containers.specs.NativeParts.Numbers.{int_made_of, int_of_class}
@@ -39,8 +39,7 @@ pub use Rattle.native_containers.specs.declared.native_parts.wrapped.Wrapper.{Wr
 pub use Rattle.native_containers.specs.declared.native_parts.wrapped.Wrapper.TheVariants.{Class, Static}
 pub use Rattle.plain_machine.specs.Dicts.{Entries, has_place, is_like, put_under, with_entries, with_entry, with_value_for, with_value_in, without_value_for}
 pub use Rattle.plain_machine.specs.Plain.{AList, ANumber, AText, ATuple, Answered, AsObjects, AsTruth, Asks, Bindings, Datum, DoCollect, DoIdEq, DoIndex, DoIsTrue, DoSpecial, DoStr, DoWhole, Ended, Ends, PlainTask, PlainWorld, ReadObjects, Said, ToAttribute, ToCompare, ToNative, ToObject, ToProtocol, Told}
-pub use Rattle.plain_machine.specs.Row.{Row, end, fault, most_items, none, noting, on_number, on_value, pass, read_objects, truth, value}
-pub use Rattle.plain_machine.specs.Rows.{Alike, Pending, fresh}
+pub use Rattle.plain_machine.specs.Row.{Row, end, fault, most_items, none, noting, on_number, on_value, pass, read_objects, truth, value, on_truth}
 pub use Rattle.py_node.specs.Faults.{raised}
 pub use Rattle.py_node.specs.declared.built_in.BuiltIn.{BuiltIn}
 pub use Rattle.py_node.specs.declared.memory.OutOfMemory.{OutOfMemory}

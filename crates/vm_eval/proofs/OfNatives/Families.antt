@@ -32,7 +32,7 @@ module _ {K : Type 0} {f : Family} {g : Group Task K} {for : K → NativesKept} 
       subst (λ full. Resumes full r old new next) (sym is) (subst (Resumes (for kept) r old new) (sym same)
       (goes-among g natives_group for a.keeps (λ t. g.stands t kept (ended_of r)) (λ t. natives_stands t (for kept) (ended_of r)) (λ t. a.keeps t kept (ended_of r)) old new step h))
 
-pub items-family : AmongNatives family.Items (as_points item_group) ForItems
+pub items-family : AmongNatives family.Items item_group ForItems
 unfolding item_job_say
 items-family = record { says = λ t n args kw u more. refl; keeps = λ t k r u more. refl }
 

@@ -1,5 +1,5 @@
 -- What the contracts of natives say.
-use Rattle.vm_eval.specs.Below.{List, Result, PyObjectRef, PyStrInterned, Raised as Fault, NativeEntry, Answer, Step, Ended, World, Reading, bindings, Claim, asking_stands, of_native_kept, item_job_say, item_stands, of_item_kept, parts_stands, of_parts_kept, compared_stands, of_compared_kept, repeat_job_say, repeat_stands, of_repeat_kept, detail_stands, of_detail_kept}
+use Rattle.vm_eval.specs.Below.{List, Result, PyObjectRef, PyStrInterned, Raised as Fault, NativeEntry, Answer, Step, Ended, World, Reading, bindings, Claim, asking_stands, of_native_kept, item_stands, of_item_kept, parts_stands, of_parts_kept, compared_stands, of_compared_kept, repeat_job_say, repeat_stands, of_repeat_kept, detail_stands, of_detail_kept}
 use Rattle.row_kit.specs.Points as points
 use Rattle.row_kit.specs.Points.{Group, Point, among, rest_of}
 use Rattle.vm_eval.specs.declared.natives.NativesKept.{NativesKept}
@@ -8,7 +8,7 @@ use Rattle.vm_eval.specs.OfNatives.Say.{NativeJob, native_job_say}
 
 -- what is done with the answer where this is kept
 abbrev pub natives_stands : Reading → NativesKept → Ended → Point
-natives_stands t (ForItems kept) = rest_of item_job_say (item_stands t kept)
+natives_stands t (ForItems kept) = item_stands t kept
 natives_stands t (ForParts kept) = parts_stands t kept
 natives_stands t (ForComparisons kept) = compared_stands t kept
 natives_stands t (ForRepeats kept) = rest_of repeat_job_say (repeat_stands t kept)

@@ -1,4 +1,4 @@
-use Rattle.vm_eval.proofs.Lemmas.{◌∙◌, sym, family-begins, plain-begins, items-family, parts-family, comparisons-family, repeats-family, details-family, calls-family, item_group, repeat_group, old-begins}
+use Rattle.vm_eval.proofs.Lemmas.{◌∙◌, sym, family-begins, plain-begins, items-family, parts-family, comparisons-family, repeats-family, details-family, calls-family, repeat_group, old-begins}
 use Rattle.py_node.specs.declared.task.Task.TheVariants as task
 use Rattle.vm_eval.proofs.natives.begin.Goals as goal
 
@@ -6,7 +6,7 @@ pub returns-in_ok-step-in-Items-clause-goes : goal.returns-in_ok-step-in-Items-c
 returns-in_ok-step-in-Items-clause-goes c =
     let a = c.args in
     let step = c.in_ok-step-in-Items in
-    family-begins items-family a.entry a.args a.kw _ _ step.step c.of_items.result (sym c.family_of.ensures ∙ c.in-Items.is) c.of_items.ensures.step (old-begins item_group (task.Native a.entry a.args a.kw) _ _ step.step step.ensures.goes)
+    family-begins items-family a.entry a.args a.kw _ _ step.step c.of_items.result (sym c.family_of.ensures ∙ c.in-Items.is) c.of_items.ensures.step step.ensures.goes
 
 pub returns-in_ok-step-in-Parts-clause-goes : goal.returns-in_ok-step-in-Parts-clause-goes
 returns-in_ok-step-in-Parts-clause-goes c =

@@ -1,11 +1,11 @@
-use Rattle.vm_eval.proofs.Lemmas.{family-resumes, items-family, parts-family, comparisons-family, repeats-family, details-family, calls-family, item_group, repeat_group, old-resumes}
+use Rattle.vm_eval.proofs.Lemmas.{family-resumes, items-family, parts-family, comparisons-family, repeats-family, details-family, calls-family, repeat_group, old-resumes}
 use Rattle.vm_eval.specs.declared.natives.NativesKept.TheVariants.{ForItems}
 use Rattle.vm_eval.proofs.natives.resume.Goals as goal
 
 pub returns-in_ok-step-in-ForItems-clause-goes : goal.returns-in_ok-step-in-ForItems-clause-goes
 returns-in_ok-step-in-ForItems-clause-goes c =
     let step = c.in_ok-step-in-ForItems in
-    family-resumes items-family c.args.kept c.in-ForItems.kept c.args.answer _ _ step.step c.of_items.result c.in-ForItems.is c.of_items.ensures.step (old-resumes item_group c.in-ForItems.kept c.args.answer _ _ step.step step.ensures.goes)
+    family-resumes items-family c.args.kept c.in-ForItems.kept c.args.answer _ _ step.step c.of_items.result c.in-ForItems.is c.of_items.ensures.step step.ensures.goes
 
 pub returns-in_ok-step-in-ForParts-clause-goes : goal.returns-in_ok-step-in-ForParts-clause-goes
 returns-in_ok-step-in-ForParts-clause-goes c =
