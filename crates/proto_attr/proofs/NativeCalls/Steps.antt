@@ -1,5 +1,5 @@
 -- How the steps of natives that ask follow from what their parts do.
-use Rattle.proto_attr.proofs.Below.{List, [], Ok, Err, IfOk, refl, sym, ap, Raised as Fault, NativeEntry, OutOfMemory, Get, Doc, known_text, PyTypeRef, PyStrInterned, PyObjectRef, Answer, Task, Step, Ask, End, PlainWorld, Said, Asks, Ends, Ended, Told, ReadObjects, DoGetAttr, DoSuperCheck, ToAttribute, ToDescriptor, ToNative, ref, World, Reading, Reads, bindings, plain, task_of, ended_of, EndsAs, Goes, StepsAs, class_method_by, start_asked, super_bound, none, named_end, Value, AfterDoc, Answering, Binding, NativeKept, ClassMethod, Super, Way, Binds, Marked, Wraps, Wrapper, asking_job_say, by_way, none_end, none_said, way_of, way_rest, answering, asking_stands, marking, native_group, asks-follow, ends-follow, read-follows}
+use Rattle.proto_attr.proofs.Below.{◌∙◌, Bindings, List, [], Ok, Err, IfOk, refl, sym, ap, Raised as Fault, NativeEntry, OutOfMemory, Get, Doc, known_text, PyTypeRef, PyStrInterned, PyObjectRef, Answer, Task, Step, Ask, End, PlainWorld, Said, Asks, Ends, Ended, Told, ReadObjects, DoGetAttr, DoSuperCheck, ToAttribute, ToDescriptor, ToNative, ref, World, Reading, Reads, bindings, plain, task_of, ended_of, EndsAs, Goes, StepsAs, class_method_by, start_asked, super_bound, none, named_end, Value, AfterDoc, Answering, Binding, NativeKept, ClassMethod, Super, Way, Binds, Marked, Wraps, Wrapper, asking_job_say, by_way, none_end, none_said, way_of, way_rest, answering, asking_stands, marking, native_group, asks-follow, ends-follow, read-follows}
 use Rattle.std.proofs.Common.{◌≡◌, ◌∷◌, ◌++◌, Result}
 use Rattle.proto_attr.specs.ProtoDescr.Rows as descriptors
 use Rattle.proto_attr.specs.declared.native_calls.NativeKept.TheVariants.{Pass, AfterGet}
