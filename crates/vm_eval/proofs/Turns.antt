@@ -41,7 +41,7 @@ rows-pop t (other ∷ stack) (p ∷ ps) kept h =
 
 -- what follows from a row's words is what follows from the code's step
 
-learnt_in : Said → Told
+abbrev learnt_in : Said → Told
 learnt_in (Asks w learnt other) = learnt
 learnt_in (Ends w r) = []
 
