@@ -37,7 +37,7 @@ steps-on stands t row other same (Ends w r) (Ask asked kept) new h = h
 steps-on stands t row other same (Ends w r) (End s) new h = h
 
 -- a row that notes a fact first, and then goes on as another
-steps-noting : {K : Type 0} (stands : K → Ended → Point) (t : Reading) (row whole : Point) (fact : Fact) → ((u : PlainWorld) (more : Told) → whole u (fact ∷ more) ≡ row u more) → (said : Said) (step : Step K) (new : World) → Steps stands t row said step new → Steps stands t whole (noting fact said) step new
+pub steps-noting : {K : Type 0} (stands : K → Ended → Point) (t : Reading) (row whole : Point) (fact : Fact) → ((u : PlainWorld) (more : Told) → whole u (fact ∷ more) ≡ row u more) → (said : Said) (step : Step K) (new : World) → Steps stands t row said step new → Steps stands t whole (noting fact said) step new
 steps-noting stands t row whole fact on (Asks w learnt task) (Ask asked kept) new h = (h.0, h.1, λ u r more. on u (learnt ++ Answered r ∷ more) ∙ h.2 u r more)
 steps-noting stands t row whole fact on (Asks w learnt task) (End r) new h = h
 steps-noting stands t row whole fact on (Ends w r) (Ask asked kept) new h = h
