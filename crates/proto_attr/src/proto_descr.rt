@@ -52,7 +52,7 @@ pub fn begin(world: &mut World, task: DescriptorTask) -> Result<Step<DescriptorK
         DescriptorTask::DescrGet(m, o, class) => descriptor::descr_get(world, m, o, class),
         DescriptorTask::DescrSet(m, o, value) => setting::descr_set(world, m, o, value),
         DescriptorTask::SuperGet(s, name) => Ok(super_get::super_get(world, s, name)),
-        DescriptorTask::SuperInit(s, args) => Ok(super_init::super_init(world, s, args)),
+        DescriptorTask::SuperInit(s, args) => super_init::super_init(world, s, args),
         DescriptorTask::SuperCheck(class, o) => Ok(super_start::super_check(world, class, o)),
     }
 }
@@ -79,7 +79,7 @@ pub fn resume(
             super_start::resume_binding(world, class, object, answer)
         }
         DescriptorKept::Starting(s, class, object) => {
-            Ok(super_init::resume_init(world, s, class, object, answer))
+            super_init::resume_init(world, s, class, object, answer)
         }
         DescriptorKept::AfterClass(class) => Ok(super_start::told_start(world, class, answer)),
     }

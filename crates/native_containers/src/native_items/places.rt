@@ -23,7 +23,7 @@ pub(crate) fn slice_of(world: &World, object: PyObjectRef) -> Option<PySlice>
     ensures stop { IfSome result (λ s. AllHold world.now (of_option of_node_ref s.stop)) }
 {
     match world.payload(object) {
-        Payload::Slice(slice) => Some(*slice),
+        Payload::Slice(slice) => Some(*slice.get()),
         _ => None,
     }
 }

@@ -132,7 +132,10 @@ fn native_function_part(detail: Detail, payload: &Payload) -> Option<Part>
     ensures holds { (w : Held) → AllHold w (of_payload payload.now) → AllHold w (of_option of_part result) }
 {
     match payload {
-        Payload::NativeFunction(f) => native_part(detail, f.name, f.target),
+        Payload::NativeFunction(f) => {
+            let f = f.get();
+            native_part(detail, f.name, f.target)
+        }
         _ => None,
     }
 }
@@ -144,7 +147,10 @@ fn builtin_method_part(detail: Detail, payload: &Payload) -> Option<Part>
     ensures holds { (w : Held) → AllHold w (of_payload payload.now) → AllHold w (of_option of_part result) }
 {
     match payload {
-        Payload::BuiltinMethod(m) => native_part(detail, m.name, Some(m.target)),
+        Payload::BuiltinMethod(m) => {
+            let m = m.get();
+            native_part(detail, m.name, Some(m.target))
+        }
         _ => None,
     }
 }
@@ -169,11 +175,14 @@ fn method_descriptor_part(detail: Detail, payload: &Payload) -> Option<Part>
     ensures holds { (w : Held) → AllHold w (of_payload payload.now) → AllHold w (of_option of_part result) }
 {
     match payload {
-        Payload::MethodDescriptor(m) => match detail {
-            Detail::Doc => Some(doc_part(m.doc)),
-            Detail::TextSignature => Some(signature_part(m.name, m.doc)),
-            detail => in_class_part(detail, m.class, m.name),
-        },
+        Payload::MethodDescriptor(m) => {
+            let m = m.get();
+            match detail {
+                Detail::Doc => Some(doc_part(m.doc)),
+                Detail::TextSignature => Some(signature_part(m.name, m.doc)),
+                detail => in_class_part(detail, m.class, m.name),
+            }
+        }
         _ => None,
     }
 }
@@ -185,10 +194,13 @@ fn getset_part(detail: Detail, payload: &Payload) -> Option<Part>
     ensures holds { (w : Held) → AllHold w (of_payload payload.now) → AllHold w (of_option of_part result) }
 {
     match payload {
-        Payload::GetSet(g) => match detail {
-            Detail::Qualname => Some(Part::Whole(g.class, g.name)),
-            _ => in_class_part(detail, g.class, g.name),
-        },
+        Payload::GetSet(g) => {
+            let g = g.get();
+            match detail {
+                Detail::Qualname => Some(Part::Whole(g.class, g.name)),
+                _ => in_class_part(detail, g.class, g.name),
+            }
+        }
         _ => None,
     }
 }
@@ -326,7 +338,7 @@ fn super_part(detail: Detail, payload: &Payload) -> Option<Part>
     ensures holds { (w : Held) → AllHold w (of_payload payload.now) → AllHold w (of_option of_part result) }
 {
     match payload {
-        Payload::Super(s) => looked_part(detail, *s),
+        Payload::Super(s) => looked_part(detail, *s.get()),
         _ => None,
     }
 }
@@ -355,7 +367,7 @@ fn slice_part(detail: Detail, payload: &Payload) -> Option<Part>
     ensures holds { (w : Held) → AllHold w (of_payload payload.now) → AllHold w (of_option of_part result) }
 {
     match payload {
-        Payload::Slice(s) => bounds_part(detail, *s),
+        Payload::Slice(s) => bounds_part(detail, *s.get()),
         _ => None,
     }
 }

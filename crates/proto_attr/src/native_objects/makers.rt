@@ -6,7 +6,9 @@ ghost use Rattle.std.specs.Prelude.{◌≡◌};
 ghost use Rattle.proto_attr.specs.NativeObjects.Makers.{maker_say};
 
 use class_world::World;
-use py_node::{Answer, BuiltIn, Cause, Payload, PyDict, PyObjectRef, PyProperty, PySuper, Stop};
+use py_node::{
+    Answer, Boxed, BuiltIn, Cause, Payload, PyDict, PyObjectRef, PyProperty, PySuper, Stop,
+};
 use row_kit::take_classes::heir;
 
 /// A new object of the class that is the first argument: of a built-in class or of one that derives from it.
@@ -91,6 +93,7 @@ fn new_super(world: &mut World, args: &[PyObjectRef]) -> Result<Answer, Stop>
 {
     let class = heir(world, BuiltIn::Super, args)?;
     let typ = world.built_in(BuiltIn::Object);
-    let node = world.make_node(class, Payload::Super(PySuper { typ, obj: None }))?;
+    let parts = Boxed::new(world.alloc(), PySuper { typ, obj: None })?;
+    let node = world.make_node(class, Payload::Super(parts))?;
     Ok(Answer::Value(node))
 }

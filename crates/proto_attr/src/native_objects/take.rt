@@ -73,7 +73,10 @@ pub(crate) fn own_method(
     match args {
         [] => Err(Raised::new(Cause::ArgCount)),
         [o, ..] => match world.payload(*o) {
-            Payload::MethodDescriptor(m) => Ok((*o, (m.class, m.name))),
+            Payload::MethodDescriptor(m) => {
+                let m = m.get();
+                Ok((*o, (m.class, m.name)))
+            }
             _ => Err(Raised::new(Cause::SelfType)),
         },
     }
@@ -116,7 +119,7 @@ pub(crate) fn own_super(
     match args {
         [] => Err(Raised::new(Cause::ArgCount)),
         [o, ..] => match world.payload(*o) {
-            Payload::Super(s) => Ok((*o, *s)),
+            Payload::Super(s) => Ok((*o, *s.get())),
             _ => Err(Raised::new(Cause::SelfType)),
         },
     }

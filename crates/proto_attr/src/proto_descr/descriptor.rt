@@ -17,7 +17,7 @@ use bitflags::Flags;
 use class_world::args::both;
 use class_world::{Fixed, World};
 use py_node::{
-    Answer, AttributeTask, BoundMethod, BuiltIn, BuiltinMethod, CallableNative, Cause,
+    Answer, AttributeTask, BoundMethod, Boxed, BuiltIn, BuiltinMethod, CallableNative, Cause,
     DescriptorNative, Known, MethodDescriptor, NativeEntry, OutOfMemory, Payload, PropertyNative,
     PyMethodFlags, PyObjectRef, PyTypeRef, Raised, SlotEntry, SlotId, Step, Stop, SuperNative,
     Task, WrapperNative, caught,
@@ -215,7 +215,7 @@ fn descriptor_of(world: &World, m: PyObjectRef) -> Option<MethodDescriptor>
     ensures holds { AllHold world.now (of_option native_of result) }
 {
     match world.payload(m) {
-        Payload::MethodDescriptor(native) => Some(*native),
+        Payload::MethodDescriptor(native) => Some(*native.get()),
         _ => None,
     }
 }
@@ -336,6 +336,7 @@ fn bound_native(
         doc: native.doc,
     };
     let class = world.built_in(BuiltIn::BuiltinMethod);
+    let method = Boxed::new(world.alloc(), method)?;
     let node = world.make_node(class, Payload::BuiltinMethod(method))?;
     Ok(Answer::Value(node))
 }

@@ -11,7 +11,7 @@ ghost use Rattle.proto_attr.specs.ProtoDescr.Rows.{Begins, EndsAs, Resumes, Star
 use crate::proto_descr::DescriptorKept;
 use class_world::{Fixed, World};
 use py_node::{
-    Answer, AttributeTask, BuiltIn, Cause, DescriptorTask, Known, OutOfMemory, Payload,
+    Answer, AttributeTask, Boxed, BuiltIn, Cause, DescriptorTask, Known, OutOfMemory, Payload,
     PyObjectRef, PySuper, PyTypeRef, Raised, Step, Stop, Task, caught,
 };
 
@@ -110,16 +110,19 @@ pub fn unbound_super(world: &World, m: PyObjectRef, o: Option<PyObjectRef>) -> O
     ensures holds { AllHold world.now (of_option of_parts result) }
 {
     match (world.payload(m), o) {
-        (Payload::Super(parts), Some(object)) => match parts.obj {
-            Some(_) => None,
-            None => {
-                if object.0 == Fixed::None.node().0 {
-                    None
-                } else {
-                    Some((parts.typ, object))
+        (Payload::Super(parts), Some(object)) => {
+            let parts = parts.get();
+            match parts.obj {
+                Some(_) => None,
+                None => {
+                    if object.0 == Fixed::None.node().0 {
+                        None
+                    } else {
+                        Some((parts.typ, object))
+                    }
                 }
             }
-        },
+        }
         _ => None,
     }
 }
@@ -145,6 +148,7 @@ pub fn bind_super(
                 obj: Some((object, start)),
             };
             let class = world.built_in(BuiltIn::Super);
+            let parts = Boxed::new(world.alloc(), parts)?;
             let node = world.make_node(class, Payload::Super(parts))?;
             Ok(Answer::Value(node))
         }
