@@ -1,6 +1,8 @@
 -- What the contracts of rows say, of any group of rows.
 use Rattle.class_world.specs.Below.{List, Result, IfOk, OutOfMemory, Raised as Fault, Answer, Step, Ask, End, PlainWorld, Told, Said, Asks, Ends, Saying, Pending, Alike, fresh, given}
 use Rattle.std.specs.Prelude.{◌≡◌, ◌++◌}
+use Rattle.py_node.specs.Stops.{Ended}
+use Rattle.py_node.specs.declared.stop.Stop.{Stop}
 use Rattle.class_world.specs.declared.world.World.{World}
 use Rattle.class_world.specs.Reading.{Reading, Reads, plain, task_of, ended_of}
 use Rattle.class_world.specs.Held.{Held}
@@ -57,5 +59,5 @@ abbrev pub EndsAs : (Reading → PlainWorld → Said) → World → World → Re
 EndsAs said old new r = (t : Reading) → Reads t new → Reads t old × (said t (plain t old) ≡ Ends (plain t new) (ended_of r))
 
 -- what held of numbers holds still, and so does all that its answer says
-abbrev pub LeavesEnd : Held → Held → Result (Result Answer Fault) OutOfMemory → Type 0
-LeavesEnd old new result = Grows old new × IfOk result (λ r. AllHold new (of_ended r))
+abbrev pub LeavesEnd : Held → Held → Result Answer Stop → Type 0
+LeavesEnd old new result = Grows old new × Ended result (λ r. AllHold new (of_ended r))

@@ -1,6 +1,6 @@
 //! The objects that the own attributes of the built-in classes hold, as a new machine gets them.
 
-ghost use Rattle.class_world.specs.Below.{fold, Some, None, IfOk, OnOk, place_of, own_attrs, attr_class};
+ghost use Rattle.class_world.specs.Below.{fold, Some, None, IfOk, NewWrapper, OnOk, place_of, own_attrs, attr_class, ref};
 ghost use Rattle.std.specs.Prelude.{◌≡◌};
 ghost use Rattle.py_node.specs.declared.payload.Payload.TheVariants as stored;
 ghost use Rattle.class_world.specs.StartNodes.{own_payload, own_node, with_own_node, opening_nodes as the_opening_nodes};
@@ -13,8 +13,8 @@ use py_node::attr::OwnAttr;
 use py_node::built_in::built_ins;
 use py_node::own_attrs::attrs_of;
 use py_node::{
-    BuiltIn, GetSet, MethodDescriptor, NativeEntry, NativeFunction, Node, OutOfMemory, Payload,
-    PyMethodFlags, PyObjectRef, PyStrInterned,
+    Boxed, BuiltIn, GetSet, MethodDescriptor, NativeEntry, NativeFunction, Node, OutOfMemory,
+    Payload, PyMethodFlags, PyObjectRef, PyStrInterned,
 };
 use std::alloc::Global;
 
@@ -54,17 +54,24 @@ fn add_object(
     match attr.1 {
         NoHash => Ok(()),
         _ => {
-            nodes.push(object_of(alloc, class, attr.0.interned(), attr.1))?;
+            let object = object_of(alloc, class, attr.0.interned(), attr.1)?;
+            nodes.push(object)?;
             Ok(())
         }
     }
 }
 
 // The object that an own attribute holds.
-fn object_of(alloc: Global, class: BuiltIn, name: PyStrInterned, attr: Attr) -> Node
-    ensures { result ≡ own_node class name attr }
+fn object_of(
+    alloc: Global,
+    class: BuiltIn,
+    name: PyStrInterned,
+    attr: Attr,
+) -> Result<Node, OutOfMemory>
+    ensures { IfOk result (λ n. n ≡ own_node class name attr) }
 {
-    plain_node(alloc, class_of(attr), payload_of(class, name, attr))
+    let payload = payload_of(alloc, class, name, attr)?;
+    Ok(plain_node(alloc, class_of(attr), payload))
 }
 
 // The class of the object that an own attribute holds.
@@ -80,79 +87,114 @@ fn class_of(attr: Attr) -> BuiltIn
 }
 
 // What this object is.
-fn payload_of(class: BuiltIn, name: PyStrInterned, attr: Attr) -> Payload
-    ensures { result ≡ own_payload class name attr }
+fn payload_of(
+    alloc: Global,
+    class: BuiltIn,
+    name: PyStrInterned,
+    attr: Attr,
+) -> Result<Payload, OutOfMemory>
+    ensures { IfOk result (λ p. p ≡ own_payload class name attr) }
 {
     match attr {
-        New => Payload::NativeFunction(NativeFunction {
-            name,
-            entry: NativeEntry::NewWrapper,
-            target: Some(PyObjectRef(class.class().0)),
-            doc: None,
-        }),
-        Method(entry) => descriptor(class, name, entry, PyMethodFlags::METHOD),
-        ClassMethod(entry) => descriptor(class, name, entry, PyMethodFlags::CLASS),
-        ReadOnly(property) => get_set(class, name, NativeEntry::Getter(property), None),
+        New => maker(alloc, class, name),
+        Method(entry) => descriptor(alloc, class, name, entry, PyMethodFlags::METHOD),
+        ClassMethod(entry) => descriptor(alloc, class, name, entry, PyMethodFlags::CLASS),
+        ReadOnly(property) => get_set(alloc, class, name, NativeEntry::Getter(property), None),
         Settable(property) => {
             let setter = NativeEntry::Setter(property);
-            get_set(class, name, NativeEntry::Getter(property), Some(setter))
+            get_set(
+                alloc,
+                class,
+                name,
+                NativeEntry::Getter(property),
+                Some(setter),
+            )
         }
-        Part(detail) => get_set(class, name, NativeEntry::GetterOf(class, detail), None),
+        Part(detail) => get_set(
+            alloc,
+            class,
+            name,
+            NativeEntry::GetterOf(class, detail),
+            None,
+        ),
         SettablePart(detail) => {
             let setter = NativeEntry::SetterOf(class, detail);
             get_set(
+                alloc,
                 class,
                 name,
                 NativeEntry::GetterOf(class, detail),
                 Some(setter),
             )
         }
-        NoHash => Payload::Object,
+        NoHash => Ok(Payload::Object),
     }
+}
+
+// The native that makes the objects of a class.
+fn maker(alloc: Global, class: BuiltIn, name: PyStrInterned) -> Result<Payload, OutOfMemory>
+    ensures { IfOk result (λ p. p ≡ stored.NativeFunction (record {
+      name = name;
+      entry = NewWrapper;
+      target = Some (ref (place_of class));
+      doc = None;
+    })) }
+{
+    let function = NativeFunction {
+        name,
+        entry: NativeEntry::NewWrapper,
+        target: Some(PyObjectRef(class.class().0)),
+        doc: None,
+    };
+    Ok(Payload::NativeFunction(Boxed::new(alloc, function)?))
 }
 
 // A native as a method of a class.
 fn descriptor(
+    alloc: Global,
     class: BuiltIn,
     name: PyStrInterned,
     entry: NativeEntry,
     flags: PyMethodFlags,
-) -> Payload
-    ensures { result ≡ stored.MethodDescriptor (record {
+) -> Result<Payload, OutOfMemory>
+    ensures { IfOk result (λ p. p ≡ stored.MethodDescriptor (record {
       class = record { 0 = place_of class };
       name = name;
       entry = entry;
       flags = flags.0;
       doc = None;
-    }) }
+    })) }
 {
-    Payload::MethodDescriptor(MethodDescriptor {
+    let method = MethodDescriptor {
         class: class.class(),
         name,
         entry,
         flags: flags.0,
         doc: None,
-    })
+    };
+    Ok(Payload::MethodDescriptor(Boxed::new(alloc, method)?))
 }
 
 // A property of the objects of a class.
 fn get_set(
+    alloc: Global,
     class: BuiltIn,
     name: PyStrInterned,
     getter: NativeEntry,
     setter: Option<NativeEntry>,
-) -> Payload
-    ensures { result ≡ stored.GetSet (record {
+) -> Result<Payload, OutOfMemory>
+    ensures { IfOk result (λ p. p ≡ stored.GetSet (record {
       class = record { 0 = place_of class };
       name = name;
       getter = Some getter;
       setter = setter;
-    }) }
+    })) }
 {
-    Payload::GetSet(GetSet {
+    let parts = GetSet {
         class: class.class(),
         name,
         getter: Some(getter),
         setter,
-    })
+    };
+    Ok(Payload::GetSet(Boxed::new(alloc, parts)?))
 }

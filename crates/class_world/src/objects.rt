@@ -81,7 +81,7 @@ impl World {
     {
         match self.payload(method) {
             Payload::MethodDescriptor(method) => {
-                PyMethodFlags(method.flags).contains(PyMethodFlags::METHOD)
+                PyMethodFlags(method.get().flags).contains(PyMethodFlags::METHOD)
             }
             _ => true,
         }

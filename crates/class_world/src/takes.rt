@@ -1,6 +1,7 @@
 //! What a native takes: so many arguments and no keyword.
 #![tactic(auto, using(crate::proofs::Items::item_holds))]
 
+ghost use Rattle.py_node.specs.Stops.{IfRaised};
 ghost use Rattle.class_world.specs.Below.{Err, IfErr, IfNone, IfOk, IfSome, string_bytes, raised, PlainWorld, Said, Ends, without_keywords, with_one, with_two, with_three, text_in, with_text, datum_at, Text, PyObjectRef as Object};
 ghost use Rattle.std.specs.Prelude.{◌≡◌};
 ghost use Rattle.class_world.specs.Held.{Held};
@@ -8,18 +9,18 @@ ghost use Rattle.class_world.specs.Reading.{Reading, Reads, bindings, plain};
 ghost use Rattle.class_world.specs.Sound.{AreNodes, IsName, IsNode, Holds, Grows};
 
 use crate::world::World;
-use py_node::{Cause, OutOfMemory, Payload, PyObjectRef, PyStrInterned, Raised};
+use py_node::{Cause, FuncArgs, OutOfMemory, Payload, PyObjectRef, PyStrInterned, Raised, Stop};
 
 /// The only argument, or why the arguments are refused.
-pub fn one(args: &[PyObjectRef], kw: &[(PyStrInterned, PyObjectRef)]) -> Result<PyObjectRef, Raised>
+pub fn one(call: FuncArgs<'_>) -> Result<PyObjectRef, Raised>
     ensures given { IfOk result (λ o. (t : Reading) (w : PlainWorld) (go : Object → Said) →
-        with_one w args.now (bindings t kw.now) go ≡ go o) }
+        with_one w call.entry.args.now (bindings t call.entry.kw.now) go ≡ go o) }
     ensures refused { IfErr result (λ x. (t : Reading) (w : PlainWorld) (go : Object → Said) →
-        with_one w args.now (bindings t kw.now) go ≡ Ends w (Err x)) }
-    ensures node { IfOk result (λ o. (w : Held) → Holds w (AreNodes args.now) → Holds w (IsNode o)) }
+        with_one w call.entry.args.now (bindings t call.entry.kw.now) go ≡ Ends w (Err x)) }
+    ensures node { IfOk result (λ o. (w : Held) → Holds w (AreNodes call.entry.args.now) → Holds w (IsNode o)) }
 {
-    match args {
-        [o] => match keyword_refusal(kw) {
+    match call.args {
+        [o] => match keyword_refusal(call.kw) {
             None => Ok(*o),
             Some(raised) => Err(raised),
         },
@@ -28,19 +29,16 @@ pub fn one(args: &[PyObjectRef], kw: &[(PyStrInterned, PyObjectRef)]) -> Result<
 }
 
 /// The two arguments, or why the arguments are refused.
-pub fn two(
-    args: &[PyObjectRef],
-    kw: &[(PyStrInterned, PyObjectRef)],
-) -> Result<(PyObjectRef, PyObjectRef), Raised>
+pub fn two(call: FuncArgs<'_>) -> Result<(PyObjectRef, PyObjectRef), Raised>
     ensures given { IfOk result (λ p. (t : Reading) (w : PlainWorld) (go : Object → Object → Said) →
-        with_two w args.now (bindings t kw.now) go ≡ go p.0 p.1) }
+        with_two w call.entry.args.now (bindings t call.entry.kw.now) go ≡ go p.0 p.1) }
     ensures refused { IfErr result (λ x. (t : Reading) (w : PlainWorld) (go : Object → Object → Said) →
-        with_two w args.now (bindings t kw.now) go ≡ Ends w (Err x)) }
-    ensures first { IfOk result (λ p. (w : Held) → Holds w (AreNodes args.now) → Holds w (IsNode p.0)) }
-    ensures second { IfOk result (λ p. (w : Held) → Holds w (AreNodes args.now) → Holds w (IsNode p.1)) }
+        with_two w call.entry.args.now (bindings t call.entry.kw.now) go ≡ Ends w (Err x)) }
+    ensures first { IfOk result (λ p. (w : Held) → Holds w (AreNodes call.entry.args.now) → Holds w (IsNode p.0)) }
+    ensures second { IfOk result (λ p. (w : Held) → Holds w (AreNodes call.entry.args.now) → Holds w (IsNode p.1)) }
 {
-    match args {
-        [o, a] => match keyword_refusal(kw) {
+    match call.args {
+        [o, a] => match keyword_refusal(call.kw) {
             None => Ok((*o, *a)),
             Some(raised) => Err(raised),
         },
@@ -49,20 +47,17 @@ pub fn two(
 }
 
 /// The three arguments, or why the arguments are refused.
-pub fn three(
-    args: &[PyObjectRef],
-    kw: &[(PyStrInterned, PyObjectRef)],
-) -> Result<(PyObjectRef, PyObjectRef, PyObjectRef), Raised>
+pub fn three(call: FuncArgs<'_>) -> Result<(PyObjectRef, PyObjectRef, PyObjectRef), Raised>
     ensures given { IfOk result (λ p. (t : Reading) (w : PlainWorld) (go : Object → Object → Object → Said) →
-        with_three w args.now (bindings t kw.now) go ≡ go p.0 p.1 p.2) }
+        with_three w call.entry.args.now (bindings t call.entry.kw.now) go ≡ go p.0 p.1 p.2) }
     ensures refused { IfErr result (λ x. (t : Reading) (w : PlainWorld) (go : Object → Object → Object → Said) →
-        with_three w args.now (bindings t kw.now) go ≡ Ends w (Err x)) }
-    ensures first { IfOk result (λ p. (w : Held) → Holds w (AreNodes args.now) → Holds w (IsNode p.0)) }
-    ensures second { IfOk result (λ p. (w : Held) → Holds w (AreNodes args.now) → Holds w (IsNode p.1)) }
-    ensures third { IfOk result (λ p. (w : Held) → Holds w (AreNodes args.now) → Holds w (IsNode p.2)) }
+        with_three w call.entry.args.now (bindings t call.entry.kw.now) go ≡ Ends w (Err x)) }
+    ensures first { IfOk result (λ p. (w : Held) → Holds w (AreNodes call.entry.args.now) → Holds w (IsNode p.0)) }
+    ensures second { IfOk result (λ p. (w : Held) → Holds w (AreNodes call.entry.args.now) → Holds w (IsNode p.1)) }
+    ensures third { IfOk result (λ p. (w : Held) → Holds w (AreNodes call.entry.args.now) → Holds w (IsNode p.2)) }
 {
-    match args {
-        [o, a, b] => match keyword_refusal(kw) {
+    match call.args {
+        [o, a, b] => match keyword_refusal(call.kw) {
             None => Ok((*o, *a, *b)),
             Some(raised) => Err(raised),
         },
@@ -93,25 +88,22 @@ fn wrong_count() -> Raised
 
 impl World {
     /// The name that an argument is, or why it is refused: it must be a text.
-    pub fn name_in(
-        &mut self,
-        node: PyObjectRef,
-    ) -> Result<Result<PyStrInterned, Raised>, OutOfMemory>
+    pub fn name_in(&mut self, node: PyObjectRef) -> Result<PyStrInterned, Stop>
         requires { Holds self.old (IsNode node) }
-        ensures given { IfOk result (λ r. IfOk r (λ x. (t : Reading) (go : Text → Said) → Reads t self.new →
-            with_text (plain t self.old) node go ≡ go (t.text x.0))) }
-        ensures refused { IfOk result (λ r. IfErr r (λ x. (t : Reading) (go : Text → Said) →
-            with_text (plain t self.old) node go ≡ Ends (plain t self.old) (Err x))) }
+        ensures given { IfOk result (λ x. (t : Reading) (go : Text → Said) → Reads t self.new →
+            with_text (plain t self.old) node go ≡ go (t.text x.0)) }
+        ensures refused { IfRaised result (λ x. (t : Reading) (go : Text → Said) →
+            with_text (plain t self.old) node go ≡ Ends (plain t self.old) (Err x)) }
         ensures same { (t : Reading) → plain t self.new ≡ plain t self.old }
         ensures reads { (t : Reading) → Reads t self.new → Reads t self.old }
         ensures grows { Grows self.old self.new }
-        ensures name { IfOk result (λ r. IfOk r (λ x. Holds self.new (IsName x))) }
+        ensures name { IfOk result (λ x. Holds self.new (IsName x)) }
     {
         match self.text_in(node)? {
-            None => Ok(Err(Raised::new(Cause::SelfType))),
+            None => Err(Stop::raise(Cause::SelfType)),
             Some(text) => {
                 let name = self.intern(text.as_str())?;
-                Ok(Ok(name))
+                Ok(name)
             }
         }
     }

@@ -3,7 +3,7 @@ pub use Rattle.class_world.proofs.Claims.{each-get}
 pub use Rattle.class_world.proofs.DictEntries.{get-below}
 pub use Rattle.class_world.specs.Reading.{Reading, Reads, bindings, compare_job, datum, ended_of, plain, task_of}
 unfoldable pub use Rattle.class_world.specs.Sound.{Holds}
-pub use Rattle.native_containers.specs.Below.{AllHold, Answer, AreNodes, Ask, CompareNative, End, EndsAs, GetItem, Grows, Held, IdEq, IfErr, IsName, IsNode, IsUtf8, IterEnd, Kind, MissingKey, NativeEntry, NewOf, Next, OfIterator, OfList, OfTuple, PyObjectRef, PySlice, PyStrInterned, Raised, SelfType, SequenceIterator, Step, Steps, Task, Text, TooLong, Vec, World, as_said, class_object, datum_at, each_value, encode_utf8, entries_at, in_length, is_of, is_plain, is_some, items_at, keys_of, known_text, max, nat_le, next_node, number_hash, number_of, object_made, of_binding, of_each, of_keyed, option_and_then, option_map, ref, slice_get, slice_range, slice_set, text_made, the_int, the_str, value_of, w64, with_datum, with_heir, with_node, with_one, with_own, with_three, with_two}
+pub use Rattle.native_containers.specs.Below.{AllHold, Answer, AreNodes, Ask, CompareNative, End, EndsAs, GetItem, Grows, Held, IdEq, IfErr, IsName, IsNode, IsUtf8, IterEnd, Kind, MissingKey, NativeEntry, NewOf, Next, OfIterator, OfList, OfTuple, PyObjectRef, PySlice, PyStrInterned, Raised, SelfType, SequenceIterator, Step, Steps, Task, Text, TooLong, Vec, World, as_said, class_object, datum_at, each_value, encode_utf8, entries_at, in_length, is_of, is_plain, is_some, items_at, keys_of, known_text, max, nat_le, next_node, number_hash, number_of, object_made, of_binding, of_each, of_ended, of_keyed, option_and_then, option_map, ref, slice_get, slice_range, slice_set, text_made, the_int, the_str, value_of, w64, with_datum, with_heir, with_node, with_one, with_own, with_three, with_two}
 pub use Rattle.native_containers.specs.NativeCompare.Containers.{Objects, Pairs, asked, both_read, by_turns, in_turn, items_compared, turns_of, values_under, with_items}
 pub use Rattle.native_containers.specs.NativeCompare.Rows.{Begins, Compares, Comparing, StepsAt, TakesTurn, Turning, compared_stands, even, firsts, seconds}
 pub use Rattle.native_containers.specs.NativeCompare.Say.{compare_native_say}

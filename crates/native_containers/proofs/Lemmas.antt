@@ -6,9 +6,10 @@ pub use Rattle.class_world.proofs.KeyEntries.{keys-can, pair-holds}
 pub use Rattle.class_world.proofs.Stored.{ok-map}
 pub use Rattle.class_world.specs.Keyed.{of_entries, of_keyed, of_pairs}
 pub use Rattle.class_world.specs.Sound.{AllHold, AreNodes, Holding, Holds, IsNode, of_payload}
-pub use Rattle.native_containers.proofs.Below.{ANumber, AText, ATuple, ComparedKept, DoCollect, DoIndex, DoSpecial, End, Ends, Err, GetItem, Held, IfOk, IterEnd, MissingKey, NewBool, NewInt, NewStr, NewTuple, Next, Ok, PlainWorld, ReadObjects, Reading, Said, Some, Starts, ToAttribute, ToProtocol, Truth, Value, [], ap, append_assoc, arith, bindings, common_steps, compare_native_say, datum, datum_at, dict_changed, dict_filled, dict_updated, drop, ended_of, ends_none, entries_at, false, fault, fold, get_or, in_length, is_some, items_at, known_text, length, list_changed, most_items, names_set, nat_le, next_node, none, object_made, plain, pos, raised, ref, refl, remove, repr_text, slice_get, slice_range, slice_set, string_bytes, subst, suc, sym, take, take_all, the_int, the_str, value, with_node, ℕ, ◌∙◌}
+pub use Rattle.native_containers.proofs.Below.{ANumber, AText, ATuple, ComparedKept, DoCollect, DoIndex, DoSpecial, End, Ends, Err, GetItem, Held, IfOk, IterEnd, MissingKey, NewBool, NewInt, NewStr, NewTuple, Next, Ok, ReadObjects, Reading, Some, Starts, ToAttribute, ToProtocol, Truth, Value, [], ap, append_assoc, arith, bindings, common_steps, compare_native_say, datum, datum_at, dict_filled, dict_updated, drop, ended_of, ends_none, entries_at, false, fault, fold, get_or, in_length, is_some, items_at, known_text, length, list_changed, most_items, names_set, nat_le, next_node, none, object_made, plain, pos, raised, ref, refl, remove, repr_text, slice_get, slice_range, slice_set, string_bytes, subst, suc, sym, take, take_all, the_int, the_str, value, with_node, ℕ, ◌∙◌}
 unfoldable pub use Rattle.native_containers.proofs.Below.{item_job_say}
-pub use Rattle.native_containers.proofs.Changed.{err-map, update-says}
+pub use Rattle.native_containers.proofs.Changed.{update-says}
+pub use Rattle.native_containers.proofs.Ends.{stop-safe, then-ended}
 pub use Rattle.native_containers.proofs.Filled.{two-filled}
 pub use Rattle.native_containers.proofs.Loops.{keyword-holds}
 pub use Rattle.native_containers.proofs.NativeCompare.Begun.{begins-ok}
@@ -32,7 +33,7 @@ pub use Rattle.native_containers.proofs.NativeTexts.Inside.{inside}
 pub use Rattle.native_containers.proofs.NativeTexts.Repr.{utf8_repr}
 pub use Rattle.native_containers.proofs.Payloads.{entries-all, entry-more}
 pub use Rattle.native_containers.proofs.Under.{length-new, length-put, not-taken, taken}
-pub use Rattle.native_containers.specs.Below.{Compare, DelItem, InplaceAdd, IsUtf8, NewOf, OfIterator, OfList, SetItem, chars, encode_utf8_all, of_task}
+pub use Rattle.native_containers.specs.Below.{Compare, DelItem, InplaceAdd, IsUtf8, NewOf, OfIterator, OfList, SetItem, chars, encode_utf8_all, list_made, of_task, text_made, tuple_made}
 pub use Rattle.native_containers.specs.NativeCompare.Containers.{dicts_by, in_turn, sequences_by, turns_of}
 pub use Rattle.native_containers.specs.NativeCompare.Rows.{left}
 pub use Rattle.native_containers.specs.NativeItems.Items.{char_rest, chars_at, del_asked, del_item, del_rest, extend, extend_rest, get_item, item_asked, item_got, look_for, placed, set_item, set_rest}
@@ -46,8 +47,8 @@ unfoldable pub use Rattle.py_node.specs.BuiltIns.{place_of}
 pub use Rattle.py_node.specs.Dicts.{PlainDict}
 pub use Rattle.py_node.specs.declared.protocol.ProtocolTask.TheVariants.{Collect, Index}
 pub use Rattle.py_node.specs.declared.task.Task.TheVariants.{Protocol}
-pub use Rattle.row_kit.proofs.ContainersEnds.{then-if}
 pub use Rattle.row_kit.proofs.ContainersPayloads.{no-entries, nodes-append}
+pub use Rattle.row_kit.proofs.Ended.{sorted_ends, sorted_ok, stop_ends}
 pub use Rattle.row_kit.specs.declared.take_containers.Kind.TheVariants.{Iterator, List}
 pub use Rattle.std.proofs.iter.TextItems.{spells}
 pub use Rattle.std.proofs.lemmas.Int.{ints, to_z-of_z}
@@ -55,6 +56,7 @@ pub use Rattle.std.proofs.lemmas.Iterator.{YieldsList, YieldsList-from_chars, Yi
 pub use Rattle.std.proofs.lemmas.Iterator.Adapters.{YieldsList-from_skip, option_map_id}
 pub use Rattle.std.proofs.lemmas.Iterator.Consumers.{nth_from_yields_List}
 pub use Rattle.std.proofs.lemmas.List.{length-set}
+pub use Rattle.std.proofs.lemmas.Result.{err_from_is_err_and}
 pub use Rattle.std.proofs.lemmas.Str.{Chars-Drains, encodes-chars}
 pub use Rattle.std.proofs.lemmas.Str.Pattern.{contains_text}
 pub use Rattle.std.specs.Int.{w128, w64}

@@ -1,6 +1,7 @@
 //! Dicts that get the entries of other dicts, and keywords.
 
-ghost use Rattle.native_containers.specs.Below.{Err, IfErr, IfOk, Dict, PlainWorld, Said, Ends, of_args, Reading, Reads, bindings, plain, AllHold, Grows, Holding, Holds, IsName, IsNode, of_binding, of_each, EndsAs, LeavesEnd};
+ghost use Rattle.py_node.specs.Stops.{Ended, IfRaised};
+ghost use Rattle.native_containers.specs.Below.{Err, IfOk, Dict, PlainWorld, Said, Ends, of_args, Reading, Reads, bindings, plain, AllHold, Grows, Holding, Holds, IsName, IsNode, of_binding, of_each, EndsAs, LeavesEnd};
 ghost use Rattle.std.specs.Prelude.{◌≡◌};
 ghost use Rattle.native_containers.specs.Say.{dict_filled, dict_updated, names_set};
 ghost use Rattle.native_containers.specs.Take.{with_own};
@@ -11,48 +12,37 @@ use crate::made::{change_dict, ends_none};
 use crate::take::{kind_refusal, own};
 use class_world::World;
 use class_world::limits::has_place;
-use py_node::{Answer, Cause, OutOfMemory, PyObjectRef, PyStrInterned, Raised};
+use py_node::{Answer, Cause, FuncArgs, PyObjectRef, PyStrInterned, Stop};
 use row_kit::take_containers::Kind;
 
 /// Sets the entries of another dict, if there is one, and then keywords, in a dict.
-pub(crate) fn init(
-    world: &mut World,
-    args: &[PyObjectRef],
-    kw: &[(PyStrInterned, PyObjectRef)],
-) -> Result<Result<Answer, Raised>, OutOfMemory>
-    requires { AllHold world.old (of_args args.now kw.now) }
-    ensures ends { IfOk result (λ r. EndsAs (λ t u.
-        with_own kind.Dict u args.now (λ d. dict_filled u d args.now (bindings t kw.now)))
-        world.old world.new r) }
+pub(crate) fn init(world: &mut World, call: FuncArgs<'_>) -> Result<Answer, Stop>
+    requires { AllHold world.old (of_args call.args.now call.kw.now) }
+    ensures ends { Ended result (EndsAs (λ t u.
+        with_own kind.Dict u call.entry.args.now (λ d. dict_filled u d call.entry.args.now (bindings t call.entry.kw.now)))
+        world.old world.new) }
     ensures safe { LeavesEnd world.old world.new result }
 {
-    match own(world, Kind::Dict, args) {
-        Err(raised) => Ok(Err(raised)),
-        Ok(dict) => fill(world, dict, args, kw),
-    }
+    let dict = own(world, Kind::Dict, call.args)?;
+    fill(world, dict, call)
 }
 
 // Sets what the arguments after a dict and the keywords say.
-fn fill(
-    world: &mut World,
-    dict: PyObjectRef,
-    args: &[PyObjectRef],
-    kw: &[(PyStrInterned, PyObjectRef)],
-) -> Result<Result<Answer, Raised>, OutOfMemory>
+fn fill(world: &mut World, dict: PyObjectRef, call: FuncArgs<'_>) -> Result<Answer, Stop>
     requires dict { Holds world.old (IsNode dict) }
     requires holding { Holds world.old (Holding dict Dict) }
-    requires args { AllHold world.old (of_args args.now kw.now) }
-    ensures ends { IfOk result (λ r. EndsAs (λ t u. dict_filled u dict args.now (bindings t kw.now))
-        world.old world.new r) }
+    requires args { AllHold world.old (of_args call.args.now call.kw.now) }
+    ensures ends { Ended result (EndsAs (λ t u. dict_filled u dict call.entry.args.now (bindings t call.entry.kw.now))
+        world.old world.new) }
     ensures safe { LeavesEnd world.old world.new result }
 {
-    match args {
-        [_] => set_names(world, dict, kw),
-        [_, other] => match update_from(world, dict, *other)? {
-            Err(raised) => Ok(Err(raised)),
-            Ok(()) => set_names(world, dict, kw),
-        },
-        _ => Ok(Err(Raised::new(Cause::ArgCount))),
+    match call.args {
+        [_] => set_names(world, dict, call.kw),
+        [_, other] => {
+            update_from(world, dict, *other)?;
+            set_names(world, dict, call.kw)
+        }
+        _ => Err(Stop::raise(Cause::ArgCount)),
     }
 }
 
@@ -61,22 +51,22 @@ pub(crate) fn update_from(
     world: &mut World,
     dict: PyObjectRef,
     other: PyObjectRef,
-) -> Result<Result<(), Raised>, OutOfMemory>
+) -> Result<(), Stop>
     requires dict { Holds world.old (IsNode dict) }
     requires holding { Holds world.old (Holding dict Dict) }
     requires other { Holds world.old (IsNode other) }
-    ensures updated { IfOk result (λ r. IfOk r (λ u. (t : Reading) (go : PlainWorld → Said) →
-        dict_updated (plain t world.old) dict other go ≡ go (plain t world.new))) }
-    ensures refused { IfOk result (λ r. IfErr r (λ x. (t : Reading) (go : PlainWorld → Said) →
-        dict_updated (plain t world.old) dict other go ≡ Ends (plain t world.new) (Err x))) }
+    ensures updated { IfOk result (λ u. (t : Reading) (go : PlainWorld → Said) →
+        dict_updated (plain t world.old) dict other go ≡ go (plain t world.new)) }
+    ensures refused { IfRaised result (λ x. (t : Reading) (go : PlainWorld → Said) →
+        dict_updated (plain t world.old) dict other go ≡ Ends (plain t world.new) (Err x)) }
     ensures reads { (t : Reading) → Reads t world.new → Reads t world.old }
     ensures grows { Grows world.old world.new }
 {
     if let Some(raised) = kind_refusal(world, Kind::Dict, other) {
-        return Ok(Err(raised));
+        return Err(raised.into());
     }
     let all = with_entries(world, dict, other)?;
-    Ok(change_dict(world, dict, all))
+    Ok(change_dict(world, dict, all)?)
 }
 
 // Sets each keyword in a dict, as far as there is room.
@@ -84,18 +74,18 @@ fn set_names(
     world: &mut World,
     dict: PyObjectRef,
     kw: &[(PyStrInterned, PyObjectRef)],
-) -> Result<Result<Answer, Raised>, OutOfMemory>
+) -> Result<Answer, Stop>
     requires dict { Holds world.old (IsNode dict) }
     requires holding { Holds world.old (Holding dict Dict) }
     requires kw { AllHold world.old (of_each of_binding kw.now) }
-    ensures ends { IfOk result (λ r. EndsAs (λ t u. names_set u dict (bindings t kw.now)) world.old world.new r) }
+    ensures ends { Ended result (EndsAs (λ t u. names_set u dict (bindings t kw.now)) world.old world.new) }
     ensures safe { LeavesEnd world.old world.new result }
 {
     for keyword in kw {
         if !has_place(world, dict, keyword.0) {
-            return Ok(Err(Raised::new(Cause::TooLong)));
+            return Err(Stop::raise(Cause::TooLong));
         }
         world.set_value_in(dict, keyword.0, keyword.1)?;
     }
-    Ok(ends_none(world))
+    Ok(ends_none(world)?)
 }

@@ -1,6 +1,7 @@
 //! The natives of lists.
 
-ghost use Rattle.native_containers.specs.Below.{[], IfOk, Reading, bindings, AreNodes, Holding, Holds, IsNode, EndsAs, LeavesEnd, list_made, items_at};
+ghost use Rattle.py_node.specs.Stops.{Ended};
+ghost use Rattle.native_containers.specs.Below.{[], Reading, bindings, AreNodes, Holding, Holds, IsNode, EndsAs, LeavesEnd, list_made, items_at};
 ghost use Rattle.std.specs.Prelude.{◌≡◌, ◌++◌, ◌∷◌};
 ghost use Rattle.py_node.specs.declared.built_in.BuiltIn.TheVariants.{List};
 ghost use Rattle.native_containers.specs.Say.{list_changed, list_say, with_joined};
@@ -12,7 +13,7 @@ use crate::sequence::{iter, joined, length};
 use crate::take::own_and;
 use class_world::World;
 use class_world::limits::is_within_limit;
-use py_node::{Answer, Cause, ListNative, OutOfMemory, PyObjectRef, PyStrInterned, Raised};
+use py_node::{Answer, Cause, FuncArgs, ListNative, PyObjectRef, Stop};
 use row_kit::give_containers::new_list;
 use row_kit::take_containers::{Kind, items};
 
@@ -20,74 +21,57 @@ use row_kit::take_containers::{Kind, items};
 pub fn list_native(
     world: &mut World,
     native: ListNative,
-    args: &[PyObjectRef],
-    kw: &[(PyStrInterned, PyObjectRef)],
-) -> Result<Result<Answer, Raised>, OutOfMemory>
-    requires { Holds world.old (AreNodes args.now) }
-    ensures ends { IfOk result (λ r. EndsAs (λ t u. list_say u native args.now (bindings t kw.now))
-        world.old world.new r) }
+    call: FuncArgs<'_>,
+) -> Result<Answer, Stop>
+    requires { Holds world.old (AreNodes call.args.now) }
+    ensures ends { Ended result (EndsAs (λ t u. list_say u native call.entry.args.now (bindings t call.entry.kw.now))
+        world.old world.new) }
     ensures safe { LeavesEnd world.old world.new result }
 {
     match native {
-        ListNative::Length => Ok(length(world, Kind::List, args, kw)),
-        ListNative::Iter => iter(world, Kind::List, args, kw),
-        ListNative::Add => add(world, args, kw),
-        ListNative::Append => append(world, args, kw),
-        _ => Ok(Err(Raised::new(Cause::SelfType))),
+        ListNative::Length => Ok(length(world, Kind::List, call)?),
+        ListNative::Iter => iter(world, Kind::List, call),
+        ListNative::Add => add(world, call),
+        ListNative::Append => append(world, call),
+        _ => Err(Stop::raise(Cause::SelfType)),
     }
 }
 
 // Two lists after one another, as a new one.
-fn add(
-    world: &mut World,
-    args: &[PyObjectRef],
-    kw: &[(PyStrInterned, PyObjectRef)],
-) -> Result<Result<Answer, Raised>, OutOfMemory>
-    requires { Holds world.old (AreNodes args.now) }
-    ensures ends { IfOk result (λ r. EndsAs (λ t u.
-        with_joined kind.List u args.now (bindings t kw.now) (list_made u)) world.old world.new r) }
+fn add(world: &mut World, call: FuncArgs<'_>) -> Result<Answer, Stop>
+    requires { Holds world.old (AreNodes call.args.now) }
+    ensures ends { Ended result (EndsAs (λ t u.
+        with_joined kind.List u call.entry.args.now (bindings t call.entry.kw.now) (list_made u)) world.old world.new) }
     ensures safe { LeavesEnd world.old world.new result }
 {
-    match joined(world, Kind::List, args, kw)? {
-        Err(raised) => Ok(Err(raised)),
-        Ok(items) => new_list(world, items),
-    }
+    let items = joined(world, Kind::List, call)?;
+    new_list(world, items)
 }
 
 // An object is put last into a list.
-fn append(
-    world: &mut World,
-    args: &[PyObjectRef],
-    kw: &[(PyStrInterned, PyObjectRef)],
-) -> Result<Result<Answer, Raised>, OutOfMemory>
-    requires { Holds world.old (AreNodes args.now) }
-    ensures ends { IfOk result (λ r. EndsAs (λ t u.
-        with_own_and kind.List u args.now (bindings t kw.now)
-        (λ o a. list_changed u o (items_at u o ++ a ∷ []))) world.old world.new r) }
+fn append(world: &mut World, call: FuncArgs<'_>) -> Result<Answer, Stop>
+    requires { Holds world.old (AreNodes call.args.now) }
+    ensures ends { Ended result (EndsAs (λ t u.
+        with_own_and kind.List u call.entry.args.now (bindings t call.entry.kw.now)
+        (λ o a. list_changed u o (items_at u o ++ a ∷ []))) world.old world.new) }
     ensures safe { LeavesEnd world.old world.new result }
 {
-    match own_and(world, Kind::List, args, kw) {
-        Err(raised) => Ok(Err(raised)),
-        Ok((list, last)) => push(world, list, last),
-    }
+    let (list, last) = own_and(world, Kind::List, call)?;
+    push(world, list, last)
 }
 
 // It is put there, unless the list would be too long.
-fn push(
-    world: &mut World,
-    list: PyObjectRef,
-    last: PyObjectRef,
-) -> Result<Result<Answer, Raised>, OutOfMemory>
+fn push(world: &mut World, list: PyObjectRef, last: PyObjectRef) -> Result<Answer, Stop>
     requires list { Holds world.old (IsNode list) }
     requires holding { Holds world.old (Holding list List) }
     requires last { Holds world.old (IsNode last) }
-    ensures ends { IfOk result (λ r. EndsAs (λ t u. list_changed u list (items_at u list ++ last ∷ []))
-        world.old world.new r) }
+    ensures ends { Ended result (EndsAs (λ t u. list_changed u list (items_at u list ++ last ∷ []))
+        world.old world.new) }
     ensures safe { LeavesEnd world.old world.new result }
 {
     if !is_within_limit(items(world, list).len() + 1) {
-        return Ok(Err(Raised::new(Cause::TooLong)));
+        return Err(Stop::raise(Cause::TooLong));
     }
     world.push_items(list, &[last])?;
-    Ok(ends_none(world))
+    Ok(ends_none(world)?)
 }

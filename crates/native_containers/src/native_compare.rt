@@ -19,7 +19,7 @@ use crate::native_compare::turn::{ask_next, ended_by};
 use crate::native_compare::way::Way;
 use class_world::World;
 use py_node::task::{Args, Keywords};
-use py_node::{Answer, BuiltIn, NativeEntry, OutOfMemory, Raised, Step};
+use py_node::{Answer, BuiltIn, FuncArgs, NativeEntry, OutOfMemory, Raised, Step};
 use row_kit::take_containers::Kind;
 
 /// What a comparison keeps while it waits for what two items answer.
@@ -58,14 +58,18 @@ pub fn begin(
     ensures goes { IfOk result (λ step. Begins (task.Native entry args kw) world.old world.new step) }
     ensures safe { Leaves of_compared_kept world.old world.new result }
 {
+    let call = FuncArgs {
+        args: &args,
+        kw: &kw,
+    };
     match entry {
         NativeEntry::Compare(BuiltIn::Tuple, native) => {
-            sequences(world, Kind::Tuple, native, &args, &kw)
+            sequences(world, Kind::Tuple, native, call)
         }
         NativeEntry::Compare(BuiltIn::List, native) => {
-            sequences(world, Kind::List, native, &args, &kw)
+            sequences(world, Kind::List, native, call)
         }
-        NativeEntry::Compare(BuiltIn::Dict, native) => dicts(world, native, &args, &kw),
+        NativeEntry::Compare(BuiltIn::Dict, native) => dicts(world, native, call),
         _ => Ok(Step::elsewhere()),
     }
 }

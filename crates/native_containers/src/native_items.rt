@@ -28,8 +28,8 @@ use crate::native_items::set::{item_set, set_item};
 use class_world::World;
 use py_node::task::{Args, Keywords};
 use py_node::{
-    Answer, IteratorNative, ListNative, NativeEntry, OutOfMemory, PyObjectRef, Raised, Step,
-    StrNative, TupleNative,
+    Answer, FuncArgs, IteratorNative, ListNative, NativeEntry, OutOfMemory, PyObjectRef, Raised,
+    Step, StrNative, TupleNative, caught,
 };
 
 /// What a native of items keeps while it waits for an answer. Where a script may run meanwhile, this has the items
@@ -81,16 +81,20 @@ pub fn begin(
     ensures goes { IfOk result (λ step. Begins (task.Native entry args kw) world.old world.new step) }
     ensures safe { Leaves of_item_kept world.old world.new result }
 {
+    let call = FuncArgs {
+        args: &args,
+        kw: &kw,
+    };
     match entry {
-        NativeEntry::OfStr(StrNative::GetItem) => get_character(world, &args, &kw),
-        NativeEntry::OfTuple(TupleNative::GetItem) => get_item(world, Sequence::Tuple, &args, &kw),
-        NativeEntry::OfTuple(TupleNative::Contains) => contains(world, Sequence::Tuple, &args, &kw),
-        NativeEntry::OfList(ListNative::GetItem) => get_item(world, Sequence::List, &args, &kw),
-        NativeEntry::OfList(ListNative::SetItem) => set_item(world, &args, &kw),
-        NativeEntry::OfList(ListNative::DelItem) => delete_item(world, &args, &kw),
-        NativeEntry::OfList(ListNative::Contains) => contains(world, Sequence::List, &args, &kw),
-        NativeEntry::OfList(ListNative::InplaceAdd) => extend_list(world, &args, &kw),
-        NativeEntry::OfIterator(IteratorNative::Next) => next_item(world, &args, &kw),
+        NativeEntry::OfStr(StrNative::GetItem) => get_character(world, call),
+        NativeEntry::OfTuple(TupleNative::GetItem) => get_item(world, Sequence::Tuple, call),
+        NativeEntry::OfTuple(TupleNative::Contains) => contains(world, Sequence::Tuple, call),
+        NativeEntry::OfList(ListNative::GetItem) => get_item(world, Sequence::List, call),
+        NativeEntry::OfList(ListNative::SetItem) => set_item(world, call),
+        NativeEntry::OfList(ListNative::DelItem) => delete_item(world, call),
+        NativeEntry::OfList(ListNative::Contains) => contains(world, Sequence::List, call),
+        NativeEntry::OfList(ListNative::InplaceAdd) => extend_list(world, call),
+        NativeEntry::OfIterator(IteratorNative::Next) => next_item(world, call),
         _ => Ok(Step::elsewhere()),
     }
 }
@@ -112,19 +116,19 @@ pub fn resume(
             Ok(Step::End(ended))
         }
         ItemKept::GettingCharacter(object) => {
-            let ended = character_given(world, object, answer)?;
+            let ended = caught(character_given(world, object, answer))?;
             Ok(Step::End(ended))
         }
         ItemKept::Setting(list, key, value, stood) => {
-            let ended = item_set(world, list, key, value, stood, answer)?;
+            let ended = caught(item_set(world, list, key, value, stood, answer))?;
             Ok(Step::End(ended))
         }
         ItemKept::Deleting(list, stood) => {
-            let ended = item_deleted(world, list, stood, answer)?;
+            let ended = caught(item_deleted(world, list, stood, answer))?;
             Ok(Step::End(ended))
         }
         ItemKept::Extending(list, stood) => {
-            let ended = list_extended(world, list, stood, answer)?;
+            let ended = caught(list_extended(world, list, stood, answer))?;
             Ok(Step::End(ended))
         }
         ItemKept::Searching(needle, items, next) => Ok(searched(

@@ -23,8 +23,8 @@ use makers::{begin_list, begin_str, begin_tuple, fill, str_made, tuple_made};
 use numbers::{begin_bool, begin_int, int_made};
 use py_node::task::{Args, Keywords};
 use py_node::{
-    Answer, BuiltIn, DictNative, ListNative, NativeEntry, OutOfMemory, PyObjectRef, PyTypeRef,
-    Raised, Step, TupleNative, WrapperNative,
+    Answer, BuiltIn, DictNative, FuncArgs, ListNative, NativeEntry, OutOfMemory, PyObjectRef,
+    PyTypeRef, Raised, Step, TupleNative, WrapperNative,
 };
 pub use take::Container;
 pub use texts::Parts;
@@ -78,22 +78,26 @@ pub fn begin(
     ensures goes { IfOk result (λ step. Begins (task.Native entry args kw) world.old world.new step) }
     ensures safe { Leaves of_parts_kept world.old world.new result }
 {
+    let call = FuncArgs {
+        args: &args,
+        kw: &kw,
+    };
     match entry {
-        NativeEntry::OfTuple(TupleNative::Repr) => begin_text(world, Container::Tuple, &args, &kw),
-        NativeEntry::OfTuple(TupleNative::Hash) => begin_hash(world, &args, &kw),
-        NativeEntry::OfList(ListNative::Init) => begin_list(world, &args, &kw),
-        NativeEntry::OfList(ListNative::Repr) => begin_text(world, Container::List, &args, &kw),
-        NativeEntry::OfDict(DictNative::Repr) => begin_text(world, Container::Dict, &args, &kw),
+        NativeEntry::OfTuple(TupleNative::Repr) => begin_text(world, Container::Tuple, call),
+        NativeEntry::OfTuple(TupleNative::Hash) => begin_hash(world, call),
+        NativeEntry::OfList(ListNative::Init) => begin_list(world, call),
+        NativeEntry::OfList(ListNative::Repr) => begin_text(world, Container::List, call),
+        NativeEntry::OfDict(DictNative::Repr) => begin_text(world, Container::Dict, call),
         NativeEntry::OfWrapper(WrapperNative::ClassRepr) => {
-            Ok(begin_wrapped(world, Wrapper::Class, &args, &kw))
+            Ok(begin_wrapped(world, Wrapper::Class, call))
         }
         NativeEntry::OfWrapper(WrapperNative::StaticRepr) => {
-            Ok(begin_wrapped(world, Wrapper::Static, &args, &kw))
+            Ok(begin_wrapped(world, Wrapper::Static, call))
         }
-        NativeEntry::NewOf(BuiltIn::Int) => begin_int(world, &args, &kw),
-        NativeEntry::NewOf(BuiltIn::Bool) => Ok(begin_bool(world, &args, &kw)),
-        NativeEntry::NewOf(BuiltIn::Str) => begin_str(world, &args, &kw),
-        NativeEntry::NewOf(BuiltIn::Tuple) => begin_tuple(world, &args, &kw),
+        NativeEntry::NewOf(BuiltIn::Int) => begin_int(world, call),
+        NativeEntry::NewOf(BuiltIn::Bool) => Ok(begin_bool(world, call)),
+        NativeEntry::NewOf(BuiltIn::Str) => begin_str(world, call),
+        NativeEntry::NewOf(BuiltIn::Tuple) => begin_tuple(world, call),
         _ => Ok(Step::elsewhere()),
     }
 }

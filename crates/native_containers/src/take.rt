@@ -6,7 +6,7 @@ ghost use Rattle.native_containers.specs.Take.{with_default, with_dict_and_key, 
 
 use class_world::takes::{one, three, two};
 use class_world::{Fixed, World};
-use py_node::{Cause, PyObjectRef, PyStrInterned, Raised};
+use py_node::{Cause, FuncArgs, PyObjectRef, Raised};
 use row_kit::take_containers::{Kind, is_of};
 
 /// The first argument, which must be of a kind, or why it is refused.
@@ -44,22 +44,17 @@ pub fn kind_refusal(world: &World, kind: Kind, object: PyObjectRef) -> Option<Ra
 }
 
 /// The only argument, which must be of a kind, or why the arguments are refused.
-pub fn lone(
-    world: &World,
-    kind: Kind,
-    args: &[PyObjectRef],
-    kw: &[(PyStrInterned, PyObjectRef)],
-) -> Result<PyObjectRef, Raised>
-    requires { Holds world.now (AreNodes args.now) }
+pub fn lone(world: &World, kind: Kind, call: FuncArgs<'_>) -> Result<PyObjectRef, Raised>
+    requires { Holds world.now (AreNodes call.args.now) }
     ensures given { IfOk result (λ o. (t : Reading) (go : Object → Said) →
-        with_lone kind (plain t world.now) args.now (bindings t kw.now) go ≡ go o) }
+        with_lone kind (plain t world.now) call.entry.args.now (bindings t call.entry.kw.now) go ≡ go o) }
     ensures refused { IfErr result (λ x. (t : Reading) (go : Object → Said) →
-        with_lone kind (plain t world.now) args.now (bindings t kw.now) go ≡ Ends (plain t world.now) (Err x)) }
+        with_lone kind (plain t world.now) call.entry.args.now (bindings t call.entry.kw.now) go ≡ Ends (plain t world.now) (Err x)) }
     ensures node { IfOk result (λ o. Holds world.now (IsNode o)) }
     ensures holding { IfOk result (λ o. Holds world.now (Holding o (home_of_kind kind))) }
 {
-    let o = own(world, kind, args)?;
-    let _ = one(args, kw)?;
+    let o = own(world, kind, call.args)?;
+    let _ = one(call)?;
     Ok(o)
 }
 
@@ -67,20 +62,19 @@ pub fn lone(
 pub fn own_and(
     world: &World,
     kind: Kind,
-    args: &[PyObjectRef],
-    kw: &[(PyStrInterned, PyObjectRef)],
+    call: FuncArgs<'_>,
 ) -> Result<(PyObjectRef, PyObjectRef), Raised>
-    requires { Holds world.now (AreNodes args.now) }
+    requires { Holds world.now (AreNodes call.args.now) }
     ensures given { IfOk result (λ p. (t : Reading) (go : Object → Object → Said) →
-        with_own_and kind (plain t world.now) args.now (bindings t kw.now) go ≡ go p.0 p.1) }
+        with_own_and kind (plain t world.now) call.entry.args.now (bindings t call.entry.kw.now) go ≡ go p.0 p.1) }
     ensures refused { IfErr result (λ x. (t : Reading) (go : Object → Object → Said) →
-        with_own_and kind (plain t world.now) args.now (bindings t kw.now) go ≡ Ends (plain t world.now) (Err x)) }
+        with_own_and kind (plain t world.now) call.entry.args.now (bindings t call.entry.kw.now) go ≡ Ends (plain t world.now) (Err x)) }
     ensures first { IfOk result (λ p. Holds world.now (IsNode p.0)) }
     ensures second { IfOk result (λ p. Holds world.now (IsNode p.1)) }
     ensures holding { IfOk result (λ p. Holds world.now (Holding p.0 (home_of_kind kind))) }
 {
-    let o = own(world, kind, args)?;
-    let (_, a) = two(args, kw)?;
+    let o = own(world, kind, call.args)?;
+    let (_, a) = two(call)?;
     Ok((o, a))
 }
 
@@ -88,22 +82,21 @@ pub fn own_and(
 pub fn own_and_two(
     world: &World,
     kind: Kind,
-    args: &[PyObjectRef],
-    kw: &[(PyStrInterned, PyObjectRef)],
+    call: FuncArgs<'_>,
 ) -> Result<(PyObjectRef, PyObjectRef, PyObjectRef), Raised>
-    requires { Holds world.now (AreNodes args.now) }
+    requires { Holds world.now (AreNodes call.args.now) }
     ensures given { IfOk result (λ p. (t : Reading) (go : Object → Object → Object → Said) →
-        with_own_and_two kind (plain t world.now) args.now (bindings t kw.now) go ≡ go p.0 p.1 p.2) }
+        with_own_and_two kind (plain t world.now) call.entry.args.now (bindings t call.entry.kw.now) go ≡ go p.0 p.1 p.2) }
     ensures refused { IfErr result (λ x. (t : Reading) (go : Object → Object → Object → Said) →
-        with_own_and_two kind (plain t world.now) args.now (bindings t kw.now) go ≡
+        with_own_and_two kind (plain t world.now) call.entry.args.now (bindings t call.entry.kw.now) go ≡
         Ends (plain t world.now) (Err x)) }
     ensures first { IfOk result (λ p. Holds world.now (IsNode p.0)) }
     ensures second { IfOk result (λ p. Holds world.now (IsNode p.1)) }
     ensures third { IfOk result (λ p. Holds world.now (IsNode p.2)) }
     ensures holding { IfOk result (λ p. Holds world.now (Holding p.0 (home_of_kind kind))) }
 {
-    let o = own(world, kind, args)?;
-    let (_, a, b) = three(args, kw)?;
+    let o = own(world, kind, call.args)?;
+    let (_, a, b) = three(call)?;
     Ok((o, a, b))
 }
 
@@ -123,21 +116,17 @@ pub fn key_refusal(world: &World, key: PyObjectRef) -> Option<Raised>
 }
 
 /// A dict and a key, or why the arguments are refused.
-pub fn dict_and_key(
-    world: &World,
-    args: &[PyObjectRef],
-    kw: &[(PyStrInterned, PyObjectRef)],
-) -> Result<(PyObjectRef, PyObjectRef), Raised>
-    requires { Holds world.now (AreNodes args.now) }
+pub fn dict_and_key(world: &World, call: FuncArgs<'_>) -> Result<(PyObjectRef, PyObjectRef), Raised>
+    requires { Holds world.now (AreNodes call.args.now) }
     ensures given { IfOk result (λ p. (t : Reading) (go : Object → Object → Said) →
-        with_dict_and_key (plain t world.now) args.now (bindings t kw.now) go ≡ go p.0 p.1) }
+        with_dict_and_key (plain t world.now) call.entry.args.now (bindings t call.entry.kw.now) go ≡ go p.0 p.1) }
     ensures refused { IfErr result (λ x. (t : Reading) (go : Object → Object → Said) →
-        with_dict_and_key (plain t world.now) args.now (bindings t kw.now) go ≡ Ends (plain t world.now) (Err x)) }
+        with_dict_and_key (plain t world.now) call.entry.args.now (bindings t call.entry.kw.now) go ≡ Ends (plain t world.now) (Err x)) }
     ensures dict { IfOk result (λ p. Holds world.now (IsNode p.0)) }
     ensures key { IfOk result (λ p. Holds world.now (IsNode p.1)) }
     ensures holding { IfOk result (λ p. Holds world.now (Holding p.0 Dict)) }
 {
-    let (dict, key) = own_and(world, Kind::Dict, args, kw)?;
+    let (dict, key) = own_and(world, Kind::Dict, call)?;
     match key_refusal(world, key) {
         Some(raised) => Err(raised),
         None => Ok((dict, key)),
@@ -145,24 +134,20 @@ pub fn dict_and_key(
 }
 
 /// A key and what is given without it, or why the arguments are refused.
-pub fn with_default(
-    world: &World,
-    args: &[PyObjectRef],
-    kw: &[(PyStrInterned, PyObjectRef)],
-) -> Result<(PyObjectRef, PyObjectRef), Raised>
-    requires { Holds world.now (AreNodes args.now) }
+pub fn with_default(world: &World, call: FuncArgs<'_>) -> Result<(PyObjectRef, PyObjectRef), Raised>
+    requires { Holds world.now (AreNodes call.args.now) }
     ensures given { IfOk result (λ p. (t : Reading) (go : Object → Object → Said) →
-        with_default (plain t world.now) args.now (bindings t kw.now) go ≡ go p.0 p.1) }
+        with_default (plain t world.now) call.entry.args.now (bindings t call.entry.kw.now) go ≡ go p.0 p.1) }
     ensures refused { IfErr result (λ x. (t : Reading) (go : Object → Object → Said) →
-        with_default (plain t world.now) args.now (bindings t kw.now) go ≡ Ends (plain t world.now) (Err x)) }
+        with_default (plain t world.now) call.entry.args.now (bindings t call.entry.kw.now) go ≡ Ends (plain t world.now) (Err x)) }
     ensures key { IfOk result (λ p. Holds world.now (IsNode p.0)) }
     ensures other { IfOk result (λ p. Holds world.now (IsNode p.1)) }
 {
-    if args.len() == 3 {
-        let (_, key, other) = three(args, kw)?;
+    if call.args.len() == 3 {
+        let (_, key, other) = three(call)?;
         Ok((key, other))
     } else {
-        let (_, key) = two(args, kw)?;
+        let (_, key) = two(call)?;
         Ok((key, world.fixed(Fixed::None)))
     }
 }

@@ -1,7 +1,7 @@
 //! The natives that call an object, bind it, or make one, by name. Each is a small automaton: `begin` and `resume`.
 #![tactic(auto, using(class_world::proofs::Items::item_holds), unfolding(crate::specs::NativeCalls::Say::asking_job_say))]
 
-ghost use Rattle.proto_attr.specs.Below.{IfOk, of_args, of_ended, of_step, Leaves, Reading, bindings, AllHold, AreNodes, Holds};
+ghost use Rattle.proto_attr.specs.Below.{IfOk, of_args, of_ended, of_step, Leaves, bindings, AllHold, AreNodes, Holds};
 ghost use Rattle.std.specs.Prelude.{◌≡◌};
 ghost use Rattle.py_node.specs.declared.task.Task.TheVariants as task;
 ghost use Rattle.proto_attr.specs.ProtoDescr.Rows.{nothing_held};
@@ -26,7 +26,8 @@ use crate::native_calls::wrapped::part_of_wrapped;
 use class_world::{Fixed, World};
 use py_node::task::{Args, Keywords};
 use py_node::{
-    Answer, Detail, NativeEntry, OutOfMemory, PyObjectRef, PyStrInterned, PyTypeRef, Raised, Step,
+    Answer, Detail, FuncArgs, NativeEntry, OutOfMemory, PyObjectRef, PyTypeRef, Raised, Step,
+    caught,
 };
 use row_kit::give::as_object;
 
@@ -73,37 +74,41 @@ pub fn begin(
     ensures goes { IfOk result (λ step. Begins (task.Native entry args kw) world.old world.new step) }
     ensures safe { Leaves of_native_kept world.old world.new result }
 {
+    let call = FuncArgs {
+        args: &args,
+        kw: &kw,
+    };
     match way_of(entry) {
-        Way::Binds(kind) => binds(world, entry, kind, &args, &kw),
+        Way::Binds(kind) => binds(world, entry, kind, call),
         Way::Sets(setting) => {
-            let step = set_by_name(world, setting, &args, &kw)?;
+            let step = set_by_name(world, setting, call)?;
             Ok(answering(world, step))
         }
         Way::Deletes(setting) => {
-            let step = delete_by_name(world, setting, &args, &kw)?;
+            let step = delete_by_name(world, setting, call)?;
             Ok(answering(world, step))
         }
         Way::Reads(wrapper, detail) => {
-            let step = part_of_wrapped(world, wrapper, detail, &args, &kw);
+            let step = part_of_wrapped(world, wrapper, detail, call);
             Ok(passed(step))
         }
         Way::Marked(wrapper) => {
-            let step = part_of_wrapped(world, wrapper, Detail::IsAbstract, &args, &kw);
+            let step = part_of_wrapped(world, wrapper, Detail::IsAbstract, call);
             Ok(marking(step))
         }
         Way::Marks(class) => {
-            let step = mark_by_name(world, class, &args, &kw);
+            let step = mark_by_name(world, class, call);
             Ok(answering(world, step))
         }
         Way::Looks => {
-            let step = super_attribute_by_name(world, &args, &kw)?;
+            let step = super_attribute_by_name(world, call)?;
             Ok(passed(step))
         }
         Way::Starts => {
-            let step = super_init_by_name(world, &args, &kw)?;
+            let step = super_init_by_name(world, call)?;
             Ok(passed(step))
         }
-        Way::Wraps(wrapper) => Ok(ask_for_doc(world, entry, wrapper, &args, &kw)),
+        Way::Wraps(wrapper) => Ok(ask_for_doc(world, entry, wrapper, call)),
         Way::Makes => {
             let step = new_by_name(world, &args, kw)?;
             Ok(passed(step))
@@ -120,40 +125,39 @@ fn binds(
     world: &mut World,
     entry: NativeEntry,
     kind: Kind,
-    args: &[PyObjectRef],
-    kw: &[(PyStrInterned, PyObjectRef)],
+    call: FuncArgs<'_>,
 ) -> Result<Step<NativeKept>, OutOfMemory>
-    requires args { Holds world.old (AreNodes args.now) }
+    requires args { Holds world.old (AreNodes call.args.now) }
     requires way { way_of entry ≡ Way.Binds kind }
     ensures goes { IfOk result (λ step. Does entry
-        (λ t u. by_way u (Way.Binds kind) entry args.now (bindings t kw.now)) world.old world.new step) }
+        (λ t u. by_way u (Way.Binds kind) entry call.entry.args.now (bindings t call.entry.kw.now)) world.old world.new step) }
     ensures safe { Leaves of_native_kept world.old world.new result }
 {
     match kind {
         Kind::Function => {
-            let ended = function_get_by_name(world, args, kw)?;
+            let ended = caught(function_get_by_name(world, call))?;
             Ok(Step::End(ended))
         }
         Kind::Native => {
-            let ended = native_get_by_name(world, args, kw)?;
+            let ended = caught(native_get_by_name(world, call))?;
             Ok(Step::End(ended))
         }
         Kind::GetSet => {
-            let step = getset_get_by_name(world, args, kw)?;
+            let step = getset_get_by_name(world, call)?;
             Ok(passed(step))
         }
         Kind::Member => {
-            let step = member_get_by_name(world, args, kw)?;
+            let step = member_get_by_name(world, call)?;
             Ok(passed(step))
         }
         Kind::Property => {
-            let step = property_get_by_name(world, args, kw)?;
+            let step = property_get_by_name(world, call)?;
             Ok(passed(step))
         }
-        Kind::Super => Ok(super_get_by_name(world, entry, args, kw)),
-        Kind::ClassMethod => Ok(class_method_by_name(world, entry, args, kw)),
+        Kind::Super => Ok(super_get_by_name(world, entry, call)),
+        Kind::ClassMethod => Ok(class_method_by_name(world, entry, call)),
         Kind::StaticMethod => {
-            let ended = static_method_by_name(world, args, kw);
+            let ended = static_method_by_name(world, call);
             Ok(Step::End(ended))
         }
     }
@@ -171,7 +175,10 @@ pub fn resume(
     ensures safe { Leaves of_native_kept world.old world.new result }
 {
     match kept {
-        NativeKept::Pass => Ok(Step::End(as_object(world, answer)?)),
+        NativeKept::Pass => {
+            let ended = caught(as_object(world, answer))?;
+            Ok(Step::End(ended))
+        }
         NativeKept::AfterGet(class, func) => resume_class_method(world, class, func, answer),
         NativeKept::AfterDoc(wrapper, class, func) => {
             give_doc(world, wrapper, class, func, answer)

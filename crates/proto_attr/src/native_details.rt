@@ -12,7 +12,9 @@ use crate::native_details::abstracts::{ask_setter, begin_abstract, join, or_not_
 use crate::native_details::names::{begin_name, name_given};
 use class_world::World;
 use py_node::task::{Args, Keywords};
-use py_node::{Answer, BuiltIn, Detail, NativeEntry, OutOfMemory, PyObjectRef, Raised, Step};
+use py_node::{
+    Answer, BuiltIn, Detail, FuncArgs, NativeEntry, OutOfMemory, PyObjectRef, Raised, Step,
+};
 
 mod abstracts;
 mod names;
@@ -52,12 +54,16 @@ pub fn begin(
     ensures goes { IfOk result (λ step. Begins (task.Native entry args kw) world.old world.new step) }
     ensures safe { Leaves of_detail_kept world.old world.new result }
 {
+    let call = FuncArgs {
+        args: &args,
+        kw: &kw,
+    };
     match entry {
         NativeEntry::GetterOf(BuiltIn::Property, detail) => {
-            Ok(begin_abstract(world, detail, &args, &kw))
+            Ok(begin_abstract(world, detail, call))
         }
         NativeEntry::GetterOf(BuiltIn::MemberDescriptor, detail) => {
-            begin_name(world, detail, &args, &kw)
+            begin_name(world, detail, call)
         }
         _ => Ok(Step::elsewhere()),
     }

@@ -18,7 +18,7 @@ use class_world::World;
 pub use descriptor::{bind_function, bind_native};
 pub use member::{member_get, member_set};
 pub use property::{property_get, property_set};
-use py_node::{Answer, DescriptorTask, OutOfMemory, PyObjectRef, PyTypeRef, Raised, Step};
+use py_node::{Answer, DescriptorTask, OutOfMemory, PyObjectRef, PyTypeRef, Raised, Step, caught};
 use row_kit::give::as_object;
 pub use setting::getset_set;
 pub use super_start::{bind_super, unbound_super};
@@ -52,7 +52,7 @@ pub fn begin(world: &mut World, task: DescriptorTask) -> Result<Step<DescriptorK
         DescriptorTask::DescrGet(m, o, class) => descriptor::descr_get(world, m, o, class),
         DescriptorTask::DescrSet(m, o, value) => setting::descr_set(world, m, o, value),
         DescriptorTask::SuperGet(s, name) => Ok(super_get::super_get(world, s, name)),
-        DescriptorTask::SuperInit(s, args) => Ok(super_init::super_init(world, s, args)),
+        DescriptorTask::SuperInit(s, args) => super_init::super_init(world, s, args),
         DescriptorTask::SuperCheck(class, o) => Ok(super_start::super_check(world, class, o)),
     }
 }
@@ -69,14 +69,17 @@ pub fn resume(
     ensures safe { Leaves of_descriptor_kept world.old world.new result }
 {
     match kept {
-        DescriptorKept::Pass => Ok(Step::End(as_object(world, answer)?)),
+        DescriptorKept::Pass => {
+            let ended = caught(as_object(world, answer))?;
+            Ok(Step::End(ended))
+        }
         DescriptorKept::AfterGet(class, func) => resume_class_method(world, class, func, answer),
         DescriptorKept::Done => Ok(Step::End(done(answer))),
         DescriptorKept::Binding(class, object) => {
             super_start::resume_binding(world, class, object, answer)
         }
         DescriptorKept::Starting(s, class, object) => {
-            Ok(super_init::resume_init(world, s, class, object, answer))
+            super_init::resume_init(world, s, class, object, answer)
         }
         DescriptorKept::AfterClass(class) => Ok(super_start::told_start(world, class, answer)),
     }

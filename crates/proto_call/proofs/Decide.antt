@@ -1,6 +1,15 @@
 -- What was read stands in what is decided.
 use Rattle.proto_call.proofs.Below.{ℕ, zero, suc, List, [], length, get_or, Ok, Err, refl, sym, subst, arith, Raised as Fault, Answer, End, PyObjectRef, ObjectNative, Step, OutOfMemory, PlainWorld, CallJob, DoObject, Said, Pending, fresh, World, Held, Reading, Reads, plain, EndsAs, Steps, Follows, IsNode, AreNodes, Holds, CallKept, call_job_say, call_stands, Closes, Does}
-use Rattle.std.proofs.Common.{◌≡◌, ◌<◌, ◌∷◌, Result, IfOk}
+use Rattle.std.proofs.Common.{◌≡◌, ◌<◌, ◌∷◌, ◌++◌, Result, IfOk}
+use Rattle.proto_call.specs.Below.{TypeNative, Bindings, Answered, ended_of, named_end}
+use Rattle.proto_call.specs.Say.{object_by}
+use Rattle.proto_call.specs.ObjectNatives.{object_native_say}
+use Rattle.proto_call.specs.ClassMake.Say.{type_by}
+use Rattle.proto_call.specs.ClassMake.TypeNatives.{type_native_say}
+use Rattle.proto_call.specs.Rows.{Resumes}
+use Rattle.proto_call.specs.declared.CallKept.TheVariants.{Named}
+use Rattle.py_node.specs.declared.entry.ObjectNative.TheVariants as object
+use Rattle.py_node.specs.declared.entry.TypeNative.TheVariants as type
 
 -- a decision by the value that was read is one by what the plain world has
 pub by-read : {A : Type 0} (p : Reading → Pending CallJob) (F : Reading → PlainWorld → A → Said) (read : Reading → PlainWorld → A) (value : A) (old new : World) (step : Step CallKept) → ((t : Reading) → Reads t old → read t (plain t old) ≡ value) → Follows call_job_say call_stands p (λ t u. F t u value) old new step → Follows call_job_say call_stands p (λ t u. F t u (read t u)) old new step
@@ -27,3 +36,49 @@ pub ends-does : (n : ObjectNative) (F : Reading → PlainWorld → Said) (old ne
 ends-does n F old new r h = λ args kw t q.
     let k = h t q in
     (k.0, subst (λ s. Steps call_job_say (call_stands t) t (DoObject n args (kw t)) [] s (End r) new) (sym k.1) (refl, refl))
+
+-- what such a native says
+pub object-ends : (u : PlainWorld) (n : ObjectNative) (args : List PyObjectRef) (kw : Bindings) → (n ≡ object.New → ⊥) → (n ≡ object.Init → ⊥) → (n ≡ object.InitSubclass → ⊥) → (n ≡ object.GetAttribute → ⊥) → (n ≡ object.SetAttr → ⊥) → (n ≡ object.DelAttr → ⊥) → (n ≡ object.Str → ⊥) → (n ≡ object.Format → ⊥) → (n ≡ object.Dir → ⊥) → (n ≡ object.Ne → ⊥) → object_by u n args kw ≡ object_native_say u n args kw
+object-ends u object.New args kw a b c d e f g h i j = absurd (a refl)
+object-ends u object.Init args kw a b c d e f g h i j = absurd (b refl)
+object-ends u object.Repr args kw a b c d e f g h i j = refl
+object-ends u object.Str args kw a b c d e f g h i j = absurd (g refl)
+object-ends u object.Hash args kw a b c d e f g h i j = refl
+object-ends u object.Compare args kw a b c d e f g h i j = refl
+object-ends u object.Eq args kw a b c d e f g h i j = refl
+object-ends u object.Ne args kw a b c d e f g h i j = absurd (j refl)
+object-ends u object.Lt args kw a b c d e f g h i j = refl
+object-ends u object.Le args kw a b c d e f g h i j = refl
+object-ends u object.Ge args kw a b c d e f g h i j = refl
+object-ends u object.Gt args kw a b c d e f g h i j = refl
+object-ends u object.GetAttribute args kw a b c d e f g h i j = absurd (d refl)
+object-ends u object.SetAttr args kw a b c d e f g h i j = absurd (e refl)
+object-ends u object.DelAttr args kw a b c d e f g h i j = absurd (f refl)
+object-ends u object.Format args kw a b c d e f g h i j = absurd (h refl)
+object-ends u object.Dir args kw a b c d e f g h i j = absurd (i refl)
+object-ends u object.SubclassHook args kw a b c d e f g h i j = refl
+object-ends u object.InitSubclass args kw a b c d e f g h i j = absurd (c refl)
+
+-- what a native of `type` says that asks no task
+pub type-ends : (u : PlainWorld) (n : TypeNative) (args : List PyObjectRef) (kw : Bindings) → (n ≡ type.New → ⊥) → (n ≡ type.GetAttribute → ⊥) → (n ≡ type.SetAttr → ⊥) → (n ≡ type.DelAttr → ⊥) → (n ≡ type.Call → ⊥) → type_by u n args kw ≡ type_native_say u n args kw
+type-ends u type.New args kw a b c d e = absurd (a refl)
+type-ends u type.Call args kw a b c d e = absurd (e refl)
+type-ends u type.GetAttribute args kw a b c d e = absurd (b refl)
+type-ends u type.SetAttr args kw a b c d e = absurd (c refl)
+type-ends u type.DelAttr args kw a b c d e = absurd (d refl)
+type-ends u type.Repr args kw a b c d e = refl
+type-ends u type.InstanceCheck args kw a b c d e = refl
+type-ends u type.SubclassCheck args kw a b c d e = refl
+type-ends u type.Dir args kw a b c d e = refl
+type-ends u type.Subclasses args kw a b c d e = refl
+type-ends u type.Mro args kw a b c d e = refl
+type-ends u type.Prepare args kw a b c d e = refl
+type-ends u type.SubclassHook args kw a b c d e = refl
+
+-- what was answered, told as an object
+pub told-resumes : (r : Result Answer Fault) (old new : World) (s : Result Answer Fault) → EndsAs (λ t u. named_end u (ended_of r) []) old new s → Resumes Named r old new (End s)
+unfolding call_job_say
+told-resumes r old new s h = λ t q.
+    let e = h t q in
+    let p = call_stands t Named in
+    (e.0, subst (λ said. Steps call_job_say (call_stands t) t p.task (p.told ++ Answered (ended_of r) ∷ []) said (End s) new) (sym e.1) (refl, refl))

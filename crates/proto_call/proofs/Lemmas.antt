@@ -10,9 +10,10 @@ pub use Rattle.class_world.proofs.Growth.{grows-itself, grows-on}
 pub use Rattle.class_world.proofs.KeyEntries.{entries-themselves, keys-can}
 pub use Rattle.class_world.proofs.OfClasses.{line-seen}
 pub use Rattle.class_world.proofs.Stored.{map-next, no-names, ok-map}
+pub use Rattle.class_world.specs.Rows.{EndsAs}
 pub use Rattle.class_world.specs.Reading.{Reading, Reads, bindings, datum, ended_of, member_datum, plain, spelled}
 pub use Rattle.plain_machine.specs.World.{datum_at, is_text, next_node, or_else_var, or_empty, ref, text_keys, with_new_class, with_node}
-pub use Rattle.proto_call.proofs.Below.{Does, Includes, by_keywords_of, by_place_of, eqb-true, ltb-true, opened_of, value-holds, with_value-holds, with_value-read}
+pub use Rattle.proto_call.proofs.Below.{Does, DoType, Includes, class_stands, fresh, by_keywords_of, by_place_of, eqb-true, ltb-true, opened_of, value-holds, with_value-holds, with_value-read}
 unfoldable pub use Rattle.proto_call.proofs.Below.{Holds, call_job_say, class_job_say, completed}
 pub use Rattle.proto_call.proofs.ClassMake.Descriptors.{member-put, name-at, places-read, texting-begins, texting-refused, texting-step}
 pub use Rattle.proto_call.proofs.ClassMake.EachBase.{classing-step, node-holds, winning-ends, winning-none, winning-step}
@@ -22,7 +23,7 @@ pub use Rattle.proto_call.proofs.ClassMake.Parts.{bases-read, bases-refused, cal
 pub use Rattle.proto_call.proofs.ClassMake.Places.{made-own, members-placed, members-solid, own-counted, places-begin}
 pub use Rattle.proto_call.proofs.ClassMake.Spaces.{completed-classes, dict-given, dict-wanted, dicted-classes, give-had, give-new, has-read, insert-holds, key-named, naming-step, pair-in, put-goes, qualified, unhash-kept, unhash-new, value-there, wrap-kept, wrap-put, wrapped}
 pub use Rattle.proto_call.proofs.ClassMake.Telling.{ask-call, ask-value, call_row, drop-none, hook-bound, hook-called, hook-other, hook-raised, made-goes, skipping-ends, skipping-step, tell-goes}
-pub use Rattle.proto_call.proofs.Decide.{does, does-after}
+pub use Rattle.proto_call.proofs.Decide.{does, does-after, ends-does, object-ends, told-resumes, type-ends}
 pub use Rattle.proto_call.proofs.Entered.{all-fill, body-begins, empty-is, enters-by, filled-opens, last-read, rest-fills, shown-read, some-holds, texts-read}
 pub use Rattle.proto_call.proofs.EvalForms.Arguments.{all-given, argument-asked, argument-holds, argument-other, arguments-given, has-argument, named-hold, no-more, plainly-given}
 pub use Rattle.proto_call.proofs.EvalForms.ClassForm.{asks-takes, class-made, class-said, cons-nodes, drop-got, drop-nodes, entry-holds, first-holds, given-holds, keyed-next, pairs-grow, pairs-push, take-nodes, takes-same, within-is}
@@ -39,12 +40,12 @@ pub use Rattle.proto_call.proofs.Unequal.{turned-asks}
 pub use Rattle.proto_call.specs.Below.{ADict, AList, AText, AllHold, Answered, AreNames, AreNodes, ArgCount, Ask, Asks, Chose, DoCall, DoEval, DoGetAttr, DoIndex, End, Ends, Goes, IfOk, IfSome, IsClass, IsName, IsNode, IsOffset, KeyType, Made, PlainWorld, PyObjectRef, PyStrInterned, SlotsType, ToAttribute, ToCall, ToProtocol, TypeArgs, World, all_attributes, class_number, digits, end, entries_from, fault, filled, find, has_null, has_value, heap_class, in_length, in_module, is_instance, is_same_name, keyed, known_text, module_of, most_items, name_at, nat_le, needed, noting, numbers, object_made, of_args, of_binding, of_each, of_ended, of_node_ref, of_option, of_slots, of_step, of_task, option_map, or_no_attributes, or_nothing, pass, refused_layout, sized_made, slice_get, slot_texts, special_at, start, text_made, the_dict, the_list, the_tuple, truth, two_of, value, w64, with_two, with_value}
 pub use Rattle.proto_call.specs.ClassMake.Rows.{of_telling}
 pub use Rattle.proto_call.specs.ClassMake.Say.{by_bases, by_one, by_parts, by_winner, call_hooks, called_with, classes_of, dicted, from_three, init_subclass, is_class, made, made_in, names_in, on_bases, qualify, refusal, tell, text_of, type_call, type_new, type_new_of, unhash, winner, with_names, with_namespace, with_own_members, with_slots, wrap}
-pub use Rattle.proto_call.specs.ClassMake.TypeNatives.{class_text, classes_made, keys_made, type_dir, type_mro, type_prepare, type_repr, type_subclasses, with_name_and_bases}
+pub use Rattle.proto_call.specs.ClassMake.TypeNatives.{type_native_say, class_text, classes_made, keys_made, type_dir, type_mro, type_prepare, type_repr, type_subclasses, with_name_and_bases}
 pub use Rattle.proto_call.specs.EvalForms.Rows.{Continues, EndsRow, GoesOn, IsOwn, Resumes, Takes, answered, args_of, arguments, arguments_at, called_task, called_told, called_tree, eval_stands, keywords_of, named, of_called, of_eval_kept, operands, operands_at, pairs, positional}
 pub use Rattle.proto_call.specs.EvalForms.Say.{attr_say, called_say, class_by, class_say, class_within, del_attr_say, fixed_named, given_metaclass, given_say, if_say, make_dict, metaclass, other_keywords, raise_say, seq_say, set_attr_say}
 unfoldable pub use Rattle.proto_call.specs.EvalForms.Say.{built_in_named, class_named, eval_say}
 pub use Rattle.proto_call.specs.EvalForms.Words.{by_manner, counted_task, manner_of, of_one, of_two, one_of, op_say, part_task, task_for, with_index}
-pub use Rattle.proto_call.specs.ObjectNatives.{text_from}
+pub use Rattle.proto_call.specs.ObjectNatives.{object_native_say, text_from}
 pub use Rattle.proto_call.specs.Say.{is_empty, object_by, object_init, object_init_subclass, object_new, shown}
 pub use Rattle.proto_call.specs.declared.CallKept.TheVariants.{Unequal}
 pub use Rattle.proto_call.specs.declared.eval_forms.EvalKept.TheVariants.{Arguments, Count, Key, Operands, Start, Stop, Value}
@@ -54,6 +55,7 @@ pub use Rattle.py_node.specs.declared.built_in.BuiltIn.TheVariants.{Object, Type
 pub use Rattle.py_node.specs.declared.entry.ObjectNative.TheVariants.{Init, InitSubclass, New}
 pub use Rattle.py_node.specs.declared.known.Known.TheVariants.{Metaclass, MroEntries, Slots}
 pub use Rattle.py_node.specs.declared.payload.MemberDescriptor.{MemberDescriptor}
+pub use Rattle.row_kit.proofs.Ended.{caught_goes, sorted_ends, sorted_ok, sorted_raised}
 pub use Rattle.row_kit.proofs.ObjectsEnded.{ends-after, ends-then}
 pub use Rattle.std.proofs.Common.{Err, None, Ok, Option, Some, [], add-one, ap, append_assoc, arith, codes, cond, drop, eqb, false, get_or, is_some, length, length-append, map, refl, rules, slice_index_or, string_bytes, subst, suc, sym, tests, true, ℕ, ◌∙◌}
 pub use Rattle.std.proofs.lemmas.Int.{to_z-of_z}

@@ -14,8 +14,8 @@ use class_world::args::{copy_args, filled};
 use class_world::limits::is_within_limit;
 use py_node::task::{Args, Keywords};
 use py_node::{
-    BodyCall, BuiltIn, Cause, EvalTask, Function, OutOfMemory, Payload, PyAttributes, PyObjectRef,
-    PyStrInterned, Step, Task,
+    BodyCall, BuiltIn, Cause, EvalTask, FuncArgs, Function, OutOfMemory, Payload, PyAttributes,
+    PyObjectRef, PyStrInterned, Step, Task,
 };
 use std::alloc::Global;
 use world_text::show::show;
@@ -32,7 +32,15 @@ pub(crate) fn begin_body(
     ensures safe { LeavesOpen of_call_kept bodies_of 0 world.old world.new result }
 {
     match function_at(world, f)? {
-        Some(function) => by_place(world, f, &function, &args, &kw),
+        Some(function) => by_place(
+            world,
+            f,
+            &function,
+            FuncArgs {
+                args: &args,
+                kw: &kw,
+            },
+        ),
         None => Ok(Step::raise(Cause::NotCallable)),
     }
 }
@@ -75,26 +83,25 @@ fn by_place(
     world: &mut World,
     f: PyObjectRef,
     function: &Function,
-    args: &[PyObjectRef],
-    kw: &[(PyStrInterned, PyObjectRef)],
+    call: FuncArgs<'_>,
 ) -> Result<Step<CallKept>, OutOfMemory>
     requires params { Holds world.old (HasParams f function.now.params.items) }
     requires node { Holds world.old (IsNode f) }
     requires function { AllHold world.old (of_function function.now) }
-    requires args { AllHold world.old (of_args args.now kw.now) }
-    ensures goes { IfOk result (λ step. Enters (by_place_of function.now f args.now kw.now) world.old world.new step) }
+    requires args { AllHold world.old (of_args call.args.now call.kw.now) }
+    ensures goes { IfOk result (λ step. Enters (by_place_of function.now f call.entry.args.now call.entry.kw.now) world.old world.new step) }
     ensures safe { LeavesOpen of_call_kept bodies_of 0 world.old world.new result }
 {
     let alloc = world.alloc();
     if function.rest {
-        if !rest_fits(&function.params, args) {
+        if !rest_fits(&function.params, call.args) {
             return Ok(Step::raise(Cause::TooLong));
         }
-        let vars = with_rest(world, &function.params, args)?;
-        by_keywords(world, f, function, vars, kw)
-    } else if left_over(&function.params, args).is_empty() {
-        let vars = filled(alloc, &function.params, args)?;
-        by_keywords(world, f, function, vars, kw)
+        let vars = with_rest(world, &function.params, call.args)?;
+        by_keywords(world, f, function, vars, call.kw)
+    } else if left_over(&function.params, call.args).is_empty() {
+        let vars = filled(alloc, &function.params, call.args)?;
+        by_keywords(world, f, function, vars, call.kw)
     } else {
         Ok(Step::raise(Cause::ArgCount))
     }

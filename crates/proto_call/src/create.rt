@@ -12,8 +12,8 @@ use class_world::args::{copy_args, copy_keywords};
 use class_world::natives::native_task;
 use py_node::task::{Args, Keywords};
 use py_node::{
-    Answer, BuiltIn, CallTask, Cause, Known, OutOfMemory, PyObjectRef, PyStrInterned, PyTypeRef,
-    SlotEntry, SlotId, Step, Task,
+    Answer, BuiltIn, CallTask, Cause, FuncArgs, Known, OutOfMemory, PyObjectRef, PyStrInterned,
+    PyTypeRef, SlotEntry, SlotId, Step, Task,
 };
 use row_kit::called::bound;
 use std::alloc::Global;
@@ -30,24 +30,26 @@ pub(crate) fn begin_type_call(
     ensures safe { IfOk result (λ step. OpensNone world.now step) }
 {
     let alloc = world.alloc();
-    let task = new_task(alloc, class, &args, &kw)?;
+    let task = new_task(
+        alloc,
+        class,
+        FuncArgs {
+            args: &args,
+            kw: &kw,
+        },
+    )?;
     Ok(Step::Ask(task, CallKept::AfterNew(class, args, kw)))
 }
 
 // The task that makes an object of a class, of these arguments.
-fn new_task(
-    alloc: Global,
-    class: PyTypeRef,
-    args: &[PyObjectRef],
-    kw: &[(PyStrInterned, PyObjectRef)],
-) -> Result<Task, OutOfMemory>
+fn new_task(alloc: Global, class: PyTypeRef, call: FuncArgs<'_>) -> Result<Task, OutOfMemory>
     ensures task { IfOk result (λ task. (t : Reading) → task_of t task ≡
-        ToCall (DoNew class.0 class.0 args.now (bindings t kw.now))) }
-    ensures holds { IfOk result (λ task. (w : World) → AllHold w (IsClass class.0 ∷ of_args args.now kw.now) →
+        ToCall (DoNew class.0 class.0 call.entry.args.now (bindings t call.entry.kw.now))) }
+    ensures holds { IfOk result (λ task. (w : World) → AllHold w (IsClass class.0 ∷ of_args call.entry.args.now call.entry.kw.now) →
         AllHold w (of_task task)) }
 {
-    let args = copy_args(alloc, args)?;
-    let kw = copy_keywords(alloc, kw)?;
+    let args = copy_args(alloc, call.args)?;
+    let kw = copy_keywords(alloc, call.kw)?;
     Ok(Task::Call(CallTask::New(class, class, args, kw)))
 }
 

@@ -14,7 +14,7 @@ use crate::object::{begin_object, native_end};
 use crate::texts::equal_given;
 use class_world::World;
 use py_node::task::{Args, Keywords};
-use py_node::{Answer, CallTask, OutOfMemory, PyObjectRef, PyTypeRef, Raised, Step};
+use py_node::{Answer, CallTask, OutOfMemory, PyObjectRef, PyTypeRef, Raised, Step, caught};
 use row_kit::give::as_object;
 
 mod asked;
@@ -81,7 +81,10 @@ pub fn resume(
 {
     match kept {
         CallKept::Pass => Ok(Step::End(answer)),
-        CallKept::Named => Ok(Step::End(as_object(world, answer)?)),
+        CallKept::Named => {
+            let ended = caught(as_object(world, answer))?;
+            Ok(Step::End(ended))
+        }
         CallKept::Native => Ok(native_end(world, answer)),
         CallKept::Unequal => Ok(equal_given(world, answer)),
         CallKept::Turned => match answer {

@@ -15,8 +15,8 @@ use class_world::takes::{one, three, two};
 use class_world::{Fixed, World};
 use py_node::task::{Args, Keywords};
 use py_node::{
-    Answer, AttributeTask, BuiltIn, Cause, Known, ObjectNative, OutOfMemory, Payload, PyObjectRef,
-    PySetterValue, PyStrInterned, Raised, Step, Task,
+    Answer, AttributeTask, BuiltIn, Cause, FuncArgs, Known, ObjectNative, OutOfMemory, Payload,
+    PyObjectRef, PySetterValue, Raised, Step, Task, caught,
 };
 
 /// A native of `object`.
@@ -30,7 +30,14 @@ pub(crate) fn begin_object(
     ensures goes { IfOk result (λ step. Begins (call.Object native args kw) world.old world.new step) }
     ensures safe { LeavesNone world.old world.new result }
 {
-    let step = object_by(world, native, &args, &kw)?;
+    let step = object_by(
+        world,
+        native,
+        FuncArgs {
+            args: &args,
+            kw: &kw,
+        },
+    )?;
     Ok(step)
 }
 
@@ -38,26 +45,28 @@ pub(crate) fn begin_object(
 fn object_by(
     world: &mut World,
     native: ObjectNative,
-    args: &[PyObjectRef],
-    kw: &[(PyStrInterned, PyObjectRef)],
+    call: FuncArgs<'_>,
 ) -> Result<Step<CallKept>, OutOfMemory>
-    requires { Holds world.old (AreNodes args.now) }
-    ensures goes { IfOk result (λ step. Does native (λ t u. object_by u native args.now (bindings t kw.now))
+    requires { Holds world.old (AreNodes call.args.now) }
+    ensures goes { IfOk result (λ step. Does native (λ t u. object_by u native call.entry.args.now (bindings t call.entry.kw.now))
         world.old world.new step) }
     ensures safe { LeavesNone world.old world.new result }
 {
     match native {
-        ObjectNative::New => object_new(world, args),
-        ObjectNative::Init => Ok(object_init(world, args)),
-        ObjectNative::InitSubclass => Ok(object_init_subclass(world, args, kw)),
-        ObjectNative::GetAttribute => object_get_attribute(world, args, kw),
-        ObjectNative::SetAttr => object_set_attr(world, args, kw),
-        ObjectNative::DelAttr => object_del_attr(world, args, kw),
-        ObjectNative::Str => Ok(object_str(world, args, kw)),
-        ObjectNative::Format => Ok(object_format(world, args, kw)),
-        ObjectNative::Dir => Ok(object_dir(world, args, kw)),
-        ObjectNative::Ne => Ok(object_ne(world, args, kw)),
-        native => Ok(Step::End(object_native(world, native, args, kw)?)),
+        ObjectNative::New => object_new(world, call.args),
+        ObjectNative::Init => Ok(object_init(world, call.args)),
+        ObjectNative::InitSubclass => Ok(object_init_subclass(world, call)),
+        ObjectNative::GetAttribute => object_get_attribute(world, call),
+        ObjectNative::SetAttr => object_set_attr(world, call),
+        ObjectNative::DelAttr => object_del_attr(world, call),
+        ObjectNative::Str => Ok(object_str(world, call)),
+        ObjectNative::Format => Ok(object_format(world, call)),
+        ObjectNative::Dir => Ok(object_dir(world, call)),
+        ObjectNative::Ne => Ok(object_ne(world, call)),
+        native => {
+            let ended = caught(object_native(world, native, call))?;
+            Ok(Step::End(ended))
+        }
     }
 }
 
@@ -123,15 +132,11 @@ fn object_init(world: &World, args: &[PyObjectRef]) -> Step<CallKept>
 }
 
 // What is done for a new class by default: nothing.
-fn object_init_subclass(
-    world: &World,
-    args: &[PyObjectRef],
-    kw: &[(PyStrInterned, PyObjectRef)],
-) -> Step<CallKept>
-    ensures goes { Closes (λ t u. object_init_subclass u args.now (bindings t kw.now)) world.now world.now result }
+fn object_init_subclass(world: &World, call: FuncArgs<'_>) -> Step<CallKept>
+    ensures goes { Closes (λ t u. object_init_subclass u call.entry.args.now (bindings t call.entry.kw.now)) world.now world.now result }
     ensures safe { OpensNone world.now result }
 {
-    match one(args, kw) {
+    match one(call) {
         Err(raised) => Step::End(Err(raised)),
         Ok(_class) => Step::End(Ok(Answer::Value(world.fixed(Fixed::None)))),
     }
@@ -140,17 +145,16 @@ fn object_init_subclass(
 // An attribute by its name, as objects read it.
 fn object_get_attribute(
     world: &mut World,
-    args: &[PyObjectRef],
-    kw: &[(PyStrInterned, PyObjectRef)],
+    call: FuncArgs<'_>,
 ) -> Result<Step<CallKept>, OutOfMemory>
-    requires { Holds world.old (AreNodes args.now) }
+    requires { Holds world.old (AreNodes call.args.now) }
     ensures goes { IfOk result (λ step. Does object.GetAttribute
-        (λ t u. object_get_attribute u args.now (bindings t kw.now)) world.old world.new step) }
+        (λ t u. object_get_attribute u call.entry.args.now (bindings t call.entry.kw.now)) world.old world.new step) }
     ensures safe { LeavesNone world.old world.new result }
 {
-    match two(args, kw) {
+    match two(call) {
         Err(raised) => Ok(Step::End(Err(raised))),
-        Ok((o, name)) => match world.name_in(name)? {
+        Ok((o, name)) => match caught(world.name_in(name))? {
             Err(raised) => Ok(Step::End(Err(raised))),
             Ok(name) => Ok(asked(AttributeTask::Generic(o, name))),
         },
@@ -158,19 +162,15 @@ fn object_get_attribute(
 }
 
 // An attribute by its name, as objects set it.
-fn object_set_attr(
-    world: &mut World,
-    args: &[PyObjectRef],
-    kw: &[(PyStrInterned, PyObjectRef)],
-) -> Result<Step<CallKept>, OutOfMemory>
-    requires { Holds world.old (AreNodes args.now) }
-    ensures goes { IfOk result (λ step. Does object.SetAttr (λ t u. object_set_attr u args.now (bindings t kw.now))
+fn object_set_attr(world: &mut World, call: FuncArgs<'_>) -> Result<Step<CallKept>, OutOfMemory>
+    requires { Holds world.old (AreNodes call.args.now) }
+    ensures goes { IfOk result (λ step. Does object.SetAttr (λ t u. object_set_attr u call.entry.args.now (bindings t call.entry.kw.now))
         world.old world.new step) }
     ensures safe { LeavesNone world.old world.new result }
 {
-    match three(args, kw) {
+    match three(call) {
         Err(raised) => Ok(Step::End(Err(raised))),
-        Ok((o, name, value)) => match world.name_in(name)? {
+        Ok((o, name, value)) => match caught(world.name_in(name))? {
             Err(raised) => Ok(Step::End(Err(raised))),
             Ok(name) => {
                 let value = PySetterValue::Assign(value);
@@ -181,19 +181,15 @@ fn object_set_attr(
 }
 
 // An attribute by its name, as objects take it out.
-fn object_del_attr(
-    world: &mut World,
-    args: &[PyObjectRef],
-    kw: &[(PyStrInterned, PyObjectRef)],
-) -> Result<Step<CallKept>, OutOfMemory>
-    requires { Holds world.old (AreNodes args.now) }
-    ensures goes { IfOk result (λ step. Does object.DelAttr (λ t u. object_del_attr u args.now (bindings t kw.now))
+fn object_del_attr(world: &mut World, call: FuncArgs<'_>) -> Result<Step<CallKept>, OutOfMemory>
+    requires { Holds world.old (AreNodes call.args.now) }
+    ensures goes { IfOk result (λ step. Does object.DelAttr (λ t u. object_del_attr u call.entry.args.now (bindings t call.entry.kw.now))
         world.old world.new step) }
     ensures safe { LeavesNone world.old world.new result }
 {
-    match two(args, kw) {
+    match two(call) {
         Err(raised) => Ok(Step::End(Err(raised))),
-        Ok((o, name)) => match world.name_in(name)? {
+        Ok((o, name)) => match caught(world.name_in(name))? {
             Err(raised) => Ok(Step::End(Err(raised))),
             Ok(name) => {
                 let task = AttributeTask::GenericSet(o, name, PySetterValue::Delete);

@@ -9,38 +9,30 @@ use crate::CallKept;
 use class_world::World;
 use class_world::takes::{one, two};
 use py_node::{
-    Answer, Cause, CompareTask, ObjectTask, Payload, ProtocolTask, PyComparisonOp, PyObjectRef,
-    PyStrInterned, Raised, Step, Task,
+    Answer, Cause, CompareTask, FuncArgs, ObjectTask, Payload, ProtocolTask, PyComparisonOp,
+    PyObjectRef, Raised, Step, Task,
 };
 use row_kit::questions::is_not_implemented;
 
 // The text of an object is that by which it is represented.
-pub(crate) fn object_str(
-    world: &World,
-    args: &[PyObjectRef],
-    kw: &[(PyStrInterned, PyObjectRef)],
-) -> Step<CallKept>
-    requires { Holds world.now (AreNodes args.now) }
-    ensures goes { Does object.Str (λ t u. object_str u args.now (bindings t kw.now)) world.now world.now result }
+pub(crate) fn object_str(world: &World, call: FuncArgs<'_>) -> Step<CallKept>
+    requires { Holds world.now (AreNodes call.args.now) }
+    ensures goes { Does object.Str (λ t u. object_str u call.entry.args.now (bindings t call.entry.kw.now)) world.now world.now result }
     ensures safe { OpensNone world.now result }
 {
-    match one(args, kw) {
+    match one(call) {
         Err(raised) => Step::End(Err(raised)),
         Ok(o) => Step::Ask(Task::Object(ObjectTask::Repr(o)), CallKept::Native),
     }
 }
 
 // The text of an object by a specification, of which none is known but the empty one.
-pub(crate) fn object_format(
-    world: &World,
-    args: &[PyObjectRef],
-    kw: &[(PyStrInterned, PyObjectRef)],
-) -> Step<CallKept>
-    requires { Holds world.now (AreNodes args.now) }
-    ensures goes { Does object.Format (λ t u. object_format u args.now (bindings t kw.now)) world.now world.now result }
+pub(crate) fn object_format(world: &World, call: FuncArgs<'_>) -> Step<CallKept>
+    requires { Holds world.now (AreNodes call.args.now) }
+    ensures goes { Does object.Format (λ t u. object_format u call.entry.args.now (bindings t call.entry.kw.now)) world.now world.now result }
     ensures safe { OpensNone world.now result }
 {
-    match two(args, kw) {
+    match two(call) {
         Err(raised) => Step::End(Err(raised)),
         Ok((o, spec)) => match world.payload(spec) {
             Payload::Text(text) => {
@@ -56,32 +48,24 @@ pub(crate) fn object_format(
 }
 
 // The names of an object's attributes.
-pub(crate) fn object_dir(
-    world: &World,
-    args: &[PyObjectRef],
-    kw: &[(PyStrInterned, PyObjectRef)],
-) -> Step<CallKept>
-    requires { Holds world.now (AreNodes args.now) }
-    ensures goes { Does object.Dir (λ t u. object_dir u args.now (bindings t kw.now)) world.now world.now result }
+pub(crate) fn object_dir(world: &World, call: FuncArgs<'_>) -> Step<CallKept>
+    requires { Holds world.now (AreNodes call.args.now) }
+    ensures goes { Does object.Dir (λ t u. object_dir u call.entry.args.now (bindings t call.entry.kw.now)) world.now world.now result }
     ensures safe { OpensNone world.now result }
 {
-    match one(args, kw) {
+    match one(call) {
         Err(raised) => Step::End(Err(raised)),
         Ok(o) => Step::Ask(Task::Object(ObjectTask::Dir(o)), CallKept::Native),
     }
 }
 
 // Whether two objects are not equal: the class of the first is asked whether they are.
-pub(crate) fn object_ne(
-    world: &World,
-    args: &[PyObjectRef],
-    kw: &[(PyStrInterned, PyObjectRef)],
-) -> Step<CallKept>
-    requires { Holds world.now (AreNodes args.now) }
-    ensures goes { Does object.Ne (λ t u. object_ne u args.now (bindings t kw.now)) world.now world.now result }
+pub(crate) fn object_ne(world: &World, call: FuncArgs<'_>) -> Step<CallKept>
+    requires { Holds world.now (AreNodes call.args.now) }
+    ensures goes { Does object.Ne (λ t u. object_ne u call.entry.args.now (bindings t call.entry.kw.now)) world.now world.now result }
     ensures safe { OpensNone world.now result }
 {
-    match two(args, kw) {
+    match two(call) {
         Err(raised) => Step::End(Err(raised)),
         Ok((a, b)) => {
             let task = CompareTask::Cmp(a, b, PyComparisonOp::Eq);

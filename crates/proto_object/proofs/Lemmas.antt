@@ -1,6 +1,7 @@
 -- The words that the answers of this crate are written in: its lemmas and definitions, and those of crates below.
 pub use Rattle.class_world.proofs.Claims.{all-append, more-nodes, no-nodes, node-in}
 pub use Rattle.class_world.proofs.Growth.{grows-itself, grows-on}
+pub use Rattle.class_world.specs.Rows.{EndsAs}
 pub use Rattle.proto_object.proofs.Below.{AList, AllHold, Answered, AreNodes, Ask, Collecting, DoSpecial, Each, End, Equal, Exhausted, Gathering, Holds, Instancecheck, IsNode, Next, PlainWorld, PyObjectRef, Said, Subclasscheck, ToAttribute, Truth, Value, bindings, datum, entered, is_numeral, keyed, known_text, most_items, names_made, other_keys, own_keys, plain, the_list, turn_of, way_of, with_slice, without_sign}
 unfoldable pub use Rattle.proto_object.proofs.Below.{number_job_say}
 pub use Rattle.proto_object.proofs.ByWay.{instance-at-once, instance-called, instance-each, instance-plainly, subclass-at-once, subclass-called, subclass-each, subclass-plainly}
@@ -18,7 +19,9 @@ pub use Rattle.proto_object.specs.Below.{keys_of, of_ended, of_task, sized_made}
 pub use Rattle.proto_object.specs.Rows.{Resumes, turn_step, way_number}
 unfoldable pub use Rattle.py_node.specs.BuiltIns.{place_of}
 pub use Rattle.row_kit.proofs.ContainersPayloads.{nodes-append}
+pub use Rattle.row_kit.proofs.Ended.{sorted_ends}
 pub use Rattle.row_kit.proofs.ObjectsEnded.{ends-then}
+pub use Rattle.row_kit.specs.GiveContainers.{list_made}
 pub use Rattle.std.proofs.Common.{Err, None, Ok, Some, [], ap, arith, drop, false, inl, refl, rules, subst, sym, true, ◌∙◌}
 pub use Rattle.std.proofs.Math.Facts.{to_z-of_z}
 pub use Rattle.std.specs.Prelude.{IfOk, is_some, length, nat_le, slice_get, string_bytes, ℤ}

@@ -1,6 +1,7 @@
 //! The names of an object's attributes.
 #![tactic(auto, unfolding(crate::specs::Say::object_job_say, py_node::specs::BuiltIns::place_of))]
 
+ghost use Rattle.py_node.specs.Stops.{Ended};
 ghost use Rattle.proto_object.specs.Below.{[], IfOk, dict_of, Leaves, Reading, Reads, bindings, plain, EndsAs, LeavesEnd, AllHold, AreNodes, Holds, IsNode, of_binding, of_each, keyed};
 ghost use Rattle.std.specs.Prelude.{◌≡◌, ◌++◌};
 ghost use Rattle.py_node.specs.declared.protocol.ObjectTask.TheVariants as object;
@@ -10,7 +11,9 @@ ghost use Rattle.proto_object.specs.Rows.{Begins, of_object_kept};
 use crate::ObjectKept;
 use class_world::World;
 use py_node::task::Args;
-use py_node::{Answer, BuiltIn, OutOfMemory, Payload, PyAttributes, PyObjectRef, Raised, Step};
+use py_node::{
+    Answer, BuiltIn, OutOfMemory, Payload, PyAttributes, PyObjectRef, Step, Stop, caught,
+};
 use row_kit::class_attributes::key_all;
 use row_kit::entries::keys_of;
 use row_kit::give::new_sized;
@@ -27,7 +30,7 @@ pub(crate) fn begin_dir(world: &mut World, o: PyObjectRef) -> Result<Step<Object
     let attrs = world.get_attributes(world.class_of(o))?;
     let keys = own_keys(world, o)?;
     let others = other_keys(world, &attrs, &keys)?;
-    let ended = new_names(world, &attrs, &others)?;
+    let ended = caught(new_names(world, &attrs, &others))?;
     Ok(Step::End(ended))
 }
 
@@ -89,11 +92,11 @@ fn new_names(
     world: &mut World,
     attrs: &PyAttributes,
     others: &[PyObjectRef],
-) -> Result<Result<Answer, Raised>, OutOfMemory>
+) -> Result<Answer, Stop>
     requires attrs { AllHold world.old (of_each of_binding attrs.now) }
     requires others { Holds world.old (AreNodes others.now) }
-    ensures ends { IfOk result (λ r. EndsAs (λ t u. names_made others.now (keyed u [] (bindings t attrs.now)))
-        world.old world.new r) }
+    ensures ends { Ended result (EndsAs (λ t u. names_made others.now (keyed u [] (bindings t attrs.now)))
+        world.old world.new) }
     ensures safe { LeavesEnd world.old world.new result }
 {
     let entries = key_all(world, attrs)?;

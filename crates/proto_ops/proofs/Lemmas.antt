@@ -15,9 +15,12 @@ pub use Rattle.proto_ops.proofs.ProtoCompare.Turns.{asks-equal, asks-left, asks-
 pub use Rattle.proto_ops.proofs.Times.{inplace-times-asks, times-asks}
 pub use Rattle.proto_ops.specs.ProtoCompare.Rows.{Resumes}
 unfoldable pub use Rattle.py_node.specs.BuiltIns.{place_of}
+pub use Rattle.proto_ops.specs.Below.{EndsAs, PlainWorld, PyObjectRef, Said, Text, with_times}
 pub use Rattle.row_kit.proofs.ContainersEnds.{same-if}
+pub use Rattle.row_kit.proofs.Ended.{sorted_ends, sorted_ok, sorted_raised, stop_ends}
 pub use Rattle.row_kit.specs.Say.{object_made, text_made}
-pub use Rattle.std.proofs.Common.{Err, Ok, Some, [], ap, arith, false, inl, inr, length, pos, refl, rules, subst, sym, true, true-eqb, ◌∙◌}
+pub use Rattle.std.proofs.Common.{Err, List, Ok, Some, [], ap, arith, false, inl, inr, length, pos, refl, rules, subst, sym, true, true-eqb, ◌∙◌}
 pub use Rattle.std.proofs.lemmas.Int.{to_z-of_z}
+pub use Rattle.std.proofs.lemmas.Result.{err_from_is_err_and}
 pub use Rattle.std.specs.Int.{cast_unsigned, w128, w64}
 pub use Rattle.std.specs.Prelude.{eqb, string_bytes}

@@ -29,7 +29,7 @@ use joins::{begin_add, begin_concat, begin_inplace_add, begin_inplace_concat, in
 use powers::{Tried, begin_inplace_power, begin_power, plain_power, power_last, power_next};
 use py_node::{
     Answer, Cause, OperatorTask, OutOfMemory, PyNumberBinaryOp, PyObjectRef, Raised, SlotEntry,
-    Step,
+    Step, caught,
 };
 use repeats::{
     begin_inplace_mul, begin_inplace_repeat, begin_mul, begin_repeat, inplace_repeat_one,
@@ -100,7 +100,7 @@ pub fn begin(world: &mut World, task: OperatorTask) -> Result<Step<OperatorKept>
         OperatorTask::InplaceMul(a, b) => Ok(begin_inplace_mul(a, b)),
         OperatorTask::InplaceRepeat(a, count) => begin_inplace_repeat(world, a, count),
         OperatorTask::NativeRepeat(entry, a, count) => {
-            let ended = native_repeat(world, entry, a, count)?;
+            let ended = caught(native_repeat(world, entry, a, count))?;
             Ok(Step::End(ended))
         }
         OperatorTask::EnterPower(entry, a, b, c) => begin_enter_power(world, entry, a, b, c),

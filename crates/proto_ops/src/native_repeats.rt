@@ -20,7 +20,9 @@ use class_world::takes::two;
 pub use count::{check_repeat_or_overflow_error, count_in};
 use py_node::protocol::ProtocolTask;
 use py_node::task::{Args, Keywords};
-use py_node::{Answer, NativeEntry, OutOfMemory, PyObjectRef, PyStrInterned, Raised, Step, Task};
+use py_node::{
+    Answer, FuncArgs, NativeEntry, OutOfMemory, PyObjectRef, Raised, Step, Task, caught,
+};
 pub use repeated::native_repeat;
 
 /// What a repetition by name keeps while it waits for the index that tells how often.
@@ -53,7 +55,15 @@ pub fn begin(
 {
     match kind_of(entry) {
         None => Ok(Step::elsewhere()),
-        Some(kind) => begin_kind(world, entry, kind, &args, &kw),
+        Some(kind) => begin_kind(
+            world,
+            entry,
+            kind,
+            FuncArgs {
+                args: &args,
+                kw: &kw,
+            },
+        ),
     }
 }
 
@@ -62,17 +72,16 @@ fn begin_kind(
     world: &World,
     entry: NativeEntry,
     kind: Repeated,
-    args: &[PyObjectRef],
-    kw: &[(PyStrInterned, PyObjectRef)],
+    call: FuncArgs<'_>,
 ) -> Result<Step<RepeatKept>, OutOfMemory>
-    requires args { Holds world.now (AreNodes args.now) }
+    requires args { Holds world.now (AreNodes call.args.now) }
     requires kind { kind_of entry ≡ Some kind }
-    ensures goes { IfOk result (λ step. Enters entry args.now kw.now world.now step) }
+    ensures goes { IfOk result (λ step. Enters entry call.entry.args.now call.entry.kw.now world.now step) }
     ensures safe { IfOk result (λ step. AllHold world.now (of_step of_repeat_kept step)) }
 {
-    match standing(world, kind, args)? {
+    match caught(standing(world, kind, call.args))? {
         Err(raised) => Ok(Step::End(Err(raised))),
-        Ok(items) => match two(args, kw) {
+        Ok(items) => match two(call) {
             Err(raised) => Ok(Step::End(Err(raised))),
             Ok((object, index)) => Ok(Step::Ask(
                 Task::Protocol(ProtocolTask::Index(index)),

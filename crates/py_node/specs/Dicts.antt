@@ -1,5 +1,5 @@
 -- Dicts: their keys, and beside each its object and its value, in the order in which the keys came.
-use Rattle.py_node.specs.Below.{ℕ, Bool, false, eqb, List, [], take, drop, remove, int_eq}
+use Rattle.py_node.specs.Below.{ℕ, Bool, false, eqb, Box, List, [], None, Option, Some, take, drop, remove, int_eq}
 use Rattle.std.specs.Prelude.{◌∷◌, ◌++◌}
 use Rattle.py_node.specs.declared.refs.PyObjectRef.{PyObjectRef}
 use Rattle.py_node.specs.declared.dict.PyDictKey.{PyDictKey}
@@ -11,6 +11,11 @@ pub record PlainDict : Type 0 where
 
 abbrev pub empty_dict : PlainDict
 empty_dict = record { keys = []; items = [] }
+
+-- what a dict holds whose keys stand in a box, if it has had any
+abbrev pub filled_or_empty : Option (Box PlainDict) → PlainDict
+filled_or_empty None = empty_dict
+filled_or_empty (Some b) = b.value
 
 -- whether two keys are one: the same number, or the same text
 abbrev pub is_same_key : PyDictKey → PyDictKey → Bool

@@ -9,7 +9,7 @@ use crate::memory::OutOfMemory;
 use std::alloc::Global;
 use std::marker::Model;
 
-/// Keys in the order in which they came, none of them twice. Without keys it takes no memory.
+/// Keys in the order in which they came, none of them twice. Before its first key it takes no memory.
 #[derive(Drop)]
 pub(crate) struct FewKeys {
     keys: Vec<PyDictKey>,

@@ -14,7 +14,7 @@ use std::marker::Model;
 // So many keys are looked for one by one: an index of them would take more memory and hardly less time.
 const FEW: usize = 8;
 
-/// Keys in the order in which they came, none of them twice. Without keys it takes no memory.
+/// Keys in the order in which they came, none of them twice. Before its first key it takes no memory.
 #[derive(Drop)]
 pub(crate) struct KeyIndex {
     store: KeyStore,

@@ -5,12 +5,14 @@ pub mod attr;
 pub mod attributes;
 pub mod attrs_of_callables;
 pub mod attrs_of_values;
+pub mod boxed;
 pub mod built_in;
 pub mod clone;
 pub mod dict;
 pub mod entry;
 pub mod expr;
 mod few_keys;
+mod filled_dict;
 pub mod flags;
 mod key_index;
 pub mod known;
@@ -30,6 +32,7 @@ pub mod task;
 
 pub use attr::Attr;
 pub use attributes::PyAttributes;
+pub use boxed::Boxed;
 pub use built_in::BuiltIn;
 pub use dict::{PyDict, PyDictKey};
 pub use entry::{

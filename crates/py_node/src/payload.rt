@@ -3,6 +3,7 @@
 ghost use Rattle.std.specs.Prelude.{◌≡◌};
 ghost use Rattle.py_node.specs.Members.{kind_number};
 
+use crate::boxed::Boxed;
 use crate::dict::PyDict;
 use crate::entry::NativeEntry;
 use crate::expr::{CallParts, ClassParts, Constant, FuncParts, Word};
@@ -27,22 +28,22 @@ pub enum Payload {
     Dict(PyDict),
     Function(Box<Function>),
     Method(BoundMethod),
-    NativeFunction(NativeFunction),
-    BuiltinMethod(BuiltinMethod),
-    MethodDescriptor(MethodDescriptor),
-    GetSet(GetSet),
+    NativeFunction(Boxed<NativeFunction>),
+    BuiltinMethod(Boxed<BuiltinMethod>),
+    MethodDescriptor(Boxed<MethodDescriptor>),
+    GetSet(Boxed<GetSet>),
     /// The callable that a class method wraps.
     ClassMethod(PyObjectRef),
     /// The callable that a static method wraps.
     StaticMethod(PyObjectRef),
     Member(Box<MemberDescriptor>),
     Property(Box<PyProperty>),
-    Super(PySuper),
+    Super(Boxed<PySuper>),
     Iterator(SequenceIterator),
-    Slice(PySlice),
+    Slice(Boxed<PySlice>),
 }
 
-const _: () = prove!(size_of::<Payload>() == 64);
+const _: () = prove!(size_of::<Payload>() == 32);
 
 /// A function of a script.
 #[derive(Drop)]
@@ -193,7 +194,7 @@ pub struct Node {
     pub payload: Payload,
 }
 
-const _: () = prove!(size_of::<Node>() == 112);
+const _: () = prove!(size_of::<Node>() == 80);
 
 /// An expression in the world's store, which names its parts by their numbers there. What is large stands in a box.
 #[derive(Drop)]

@@ -4,7 +4,7 @@ pub use Rattle.class_world.proofs.Claims.{each-get, get-end, more-nodes, no-node
 pub use Rattle.class_world.proofs.SoundWorld.{keys-stored}
 pub use Rattle.class_world.proofs.Stored.{map-push, ok-map}
 pub use Rattle.class_world.specs.Held.{Held}
-pub use Rattle.class_world.specs.Rows.{EndsAs, Follows, Steps}
+pub use Rattle.class_world.specs.Rows.{EndsAs, Follows, Goes, Steps}
 pub use Rattle.class_world.specs.Sound.{AllHold, AreNodes, Grows, IsName, IsNode, KeysDiffer, of_binding, of_each, of_node_ref}
 unfoldable pub use Rattle.class_world.specs.Sound.{Holds}
 pub use Rattle.class_world.specs.declared.world.World.{World}

@@ -68,6 +68,7 @@ fn call_held(
             NativeEntry::OfCallable(CallableNative::CallNativeFunction),
             Payload::NativeFunction(func),
         ) => {
+            let func = func.get();
             let args = with_self(alloc, func.target, args)?;
             Ok(Some(native_task(func.entry, args, kw)))
         }
@@ -75,13 +76,14 @@ fn call_held(
             NativeEntry::OfCallable(CallableNative::CallBuiltinMethod),
             Payload::BuiltinMethod(method),
         ) => {
+            let method = method.get();
             let args = bound(alloc, method.target, args)?;
             Ok(Some(native_task(method.entry, args, kw)))
         }
         (
             NativeEntry::OfCallable(CallableNative::CallMethodDescriptor),
             Payload::MethodDescriptor(method),
-        ) => { Ok(Some(native_task(method.entry, args, kw))) }
+        ) => { Ok(Some(native_task(method.get().entry, args, kw))) }
         (NativeEntry::OfType(TypeNative::Call), Payload::Class(class)) => {
             Ok(Some(Task::Call(CallTask::TypeCall(*class, args, kw))))
         }

@@ -1,5 +1,6 @@
 //! What classes are called, in their modules.
 
+ghost use Rattle.py_node.specs.Stops.{Ended};
 ghost use Rattle.row_kit.specs.Below.{codes, false, Err, IfOk, IfSome, option_map, string_bytes, known_text, datum_at, is_text, Reading, Reads, plain, EndsAs, LeavesEnd, AllHold, IsClass, IsNode, Holds, of_node_ref, of_option};
 ghost use Rattle.std.specs.Prelude.{◌≡◌, ◌++◌};
 ghost use Rattle.row_kit.specs.Say.{in_length, text_made};
@@ -8,19 +9,19 @@ ghost use Rattle.row_kit.specs.ClassNames.{builtins, given, in_module, is_getset
 use crate::give::new_text;
 use class_world::World;
 use class_world::limits::is_within_limit;
-use py_node::{Answer, Cause, Known, OutOfMemory, Payload, PyObjectRef, PyTypeRef, Raised};
+use py_node::{Answer, Cause, Known, OutOfMemory, Payload, PyObjectRef, PyTypeRef, Stop};
 use std::alloc::Global;
 
 /// Ends with a new text, unless it is too long.
-pub fn limited_text(world: &mut World, text: String) -> Result<Result<Answer, Raised>, OutOfMemory>
-    ensures ends { IfOk result (λ r. EndsAs (λ t u. text_made u (in_length (string_bytes text)))
-        world.old world.new r) }
+pub fn limited_text(world: &mut World, text: String) -> Result<Answer, Stop>
+    ensures ends { Ended result (EndsAs (λ t u. text_made u (in_length (string_bytes text)))
+        world.old world.new) }
     ensures safe { LeavesEnd world.old world.new result }
 {
     if is_within_limit(text.len()) {
         new_text(world, text)
     } else {
-        Ok(Err(Raised::new(Cause::TooLong)))
+        Err(Stop::raise(Cause::TooLong))
     }
 }
 

@@ -1,50 +1,39 @@
 //! What a native gives: a new object, a new number, or a new text.
 
-ghost use Rattle.row_kit.specs.Below.{Ok, None, [], IfOk, string_bytes, place_of, holds_as, named_end, of_ended, Reading, datum, ended_of, AllHold, Holds, IsNode, class_in, home_of, of_payload, EndsAs, LeavesEnd};
+ghost use Rattle.py_node.specs.Stops.{Ended};
+ghost use Rattle.row_kit.specs.Below.{Ok, None, [], string_bytes, place_of, holds_as, named_end, of_ended, Reading, datum, ended_of, AllHold, Holds, IsNode, class_in, home_of, of_payload, EndsAs, LeavesEnd};
 ghost use Rattle.std.specs.Prelude.{◌≡◌};
 ghost use Rattle.row_kit.specs.Say.{int_made, iterator_made, text_made, object_made, size_of, sized_made};
 
 use class_world::limits::is_within_limit;
 use class_world::{Fixed, World};
-use py_node::{
-    Answer, BuiltIn, Cause, OutOfMemory, Payload, PyObjectRef, Raised, SequenceIterator,
-};
+use py_node::{Answer, BuiltIn, Cause, Payload, PyObjectRef, Raised, SequenceIterator, Stop};
 
 /// Ends with a new object of a built-in class.
-pub fn new_object(
-    world: &mut World,
-    class: BuiltIn,
-    payload: Payload,
-) -> Result<Result<Answer, Raised>, OutOfMemory>
+pub fn new_object(world: &mut World, class: BuiltIn, payload: Payload) -> Result<Answer, Stop>
     requires of { holds_as class ≡ home_of payload }
     requires holds { AllHold world.old (of_payload payload) }
     requires other { class_in payload ≡ None }
-    ensures ends { IfOk result (λ r.
-        EndsAs (λ t u. object_made u (place_of class) (datum t payload)) world.old world.new r) }
+    ensures ends { Ended result (EndsAs (λ t u. object_made u (place_of class) (datum t payload)) world.old world.new) }
     ensures safe { LeavesEnd world.old world.new result }
 {
     let class = world.built_in(class);
     let node = world.make_node(class, payload)?;
-    Ok(Ok(Answer::Value(node)))
+    Ok(Answer::Value(node))
 }
 
 /// Ends with a new text, tuple, list or dict, where it has no more bytes or items than there may be.
-pub fn new_sized(
-    world: &mut World,
-    class: BuiltIn,
-    payload: Payload,
-) -> Result<Result<Answer, Raised>, OutOfMemory>
+pub fn new_sized(world: &mut World, class: BuiltIn, payload: Payload) -> Result<Answer, Stop>
     requires of { holds_as class ≡ home_of payload }
     requires holds { AllHold world.old (of_payload payload) }
     requires other { class_in payload ≡ None }
-    ensures ends { IfOk result (λ r.
-        EndsAs (λ t u. sized_made u (place_of class) (datum t payload)) world.old world.new r) }
+    ensures ends { Ended result (EndsAs (λ t u. sized_made u (place_of class) (datum t payload)) world.old world.new) }
     ensures safe { LeavesEnd world.old world.new result }
 {
     if is_within_limit(size_of(&payload)) {
         new_object(world, class, payload)
     } else {
-        Ok(Err(Raised::new(Cause::TooLong)))
+        Err(Stop::raise(Cause::TooLong))
     }
 }
 
@@ -62,36 +51,29 @@ fn size_of(payload: &Payload) -> usize
 }
 
 /// Ends with a new whole number, or with a fault.
-pub fn new_int(
-    world: &mut World,
-    number: Result<i128, Raised>,
-) -> Result<Result<Answer, Raised>, OutOfMemory>
-    ensures ends { IfOk result (λ r. EndsAs (λ t u. int_made u number) world.old world.new r) }
+pub fn new_int(world: &mut World, number: Result<i128, Raised>) -> Result<Answer, Stop>
+    ensures ends { Ended result (EndsAs (λ t u. int_made u number) world.old world.new) }
     ensures safe { LeavesEnd world.old world.new result }
 {
-    match number {
-        Err(raised) => Ok(Err(raised)),
-        Ok(z) => {
-            let class = world.built_in(BuiltIn::Int);
-            let node = world.make_node(class, Payload::Number(z))?;
-            Ok(Ok(Answer::Value(node)))
-        }
-    }
+    let z = number?;
+    let class = world.built_in(BuiltIn::Int);
+    let node = world.make_node(class, Payload::Number(z))?;
+    Ok(Answer::Value(node))
 }
 
 /// Ends with a new text.
-pub fn new_text(world: &mut World, text: String) -> Result<Result<Answer, Raised>, OutOfMemory>
-    ensures ends { IfOk result (λ r. EndsAs (λ t u. text_made u (Ok (string_bytes text))) world.old world.new r) }
+pub fn new_text(world: &mut World, text: String) -> Result<Answer, Stop>
+    ensures ends { Ended result (EndsAs (λ t u. text_made u (Ok (string_bytes text))) world.old world.new) }
     ensures safe { LeavesEnd world.old world.new result }
 {
     let class = world.built_in(BuiltIn::Str);
     let node = world.make_node(class, Payload::Text(text))?;
-    Ok(Ok(Answer::Value(node)))
+    Ok(Answer::Value(node))
 }
 
 /// Ends with a new text that is this word.
-pub fn new_word(world: &mut World, word: &str) -> Result<Result<Answer, Raised>, OutOfMemory>
-    ensures ends { IfOk result (λ r. EndsAs (λ t u. text_made u (Ok word.now)) world.old world.new r) }
+pub fn new_word(world: &mut World, word: &str) -> Result<Answer, Stop>
+    ensures ends { Ended result (EndsAs (λ t u. text_made u (Ok word.now)) world.old world.new) }
     ensures safe { LeavesEnd world.old world.new result }
 {
     let text = String::from_str(world.alloc(), word)?;
@@ -99,12 +81,9 @@ pub fn new_word(world: &mut World, word: &str) -> Result<Result<Answer, Raised>,
 }
 
 /// Ends with a new iterator over an object, whose first item is the next.
-pub fn new_iterator(
-    world: &mut World,
-    object: PyObjectRef,
-) -> Result<Result<Answer, Raised>, OutOfMemory>
+pub fn new_iterator(world: &mut World, object: PyObjectRef) -> Result<Answer, Stop>
     requires { Holds world.old (IsNode object) }
-    ensures ends { IfOk result (λ r. EndsAs (λ t u. iterator_made u object) world.old world.new r) }
+    ensures ends { Ended result (EndsAs (λ t u. iterator_made u object) world.old world.new) }
     ensures safe { LeavesEnd world.old world.new result }
 {
     let iterator = SequenceIterator {
@@ -116,18 +95,14 @@ pub fn new_iterator(
 
 /// Ends with an object, as a native does that is called by name or by which an attribute is read: of a number that it
 /// told, a new one, and None where it told nothing. Other answers and faults stay.
-pub fn as_object(
-    world: &mut World,
-    answer: Result<Answer, Raised>,
-) -> Result<Result<Answer, Raised>, OutOfMemory>
+pub fn as_object(world: &mut World, answer: Result<Answer, Raised>) -> Result<Answer, Stop>
     requires { AllHold world.old (of_ended answer) }
-    ensures ends { IfOk result (λ r.
-        EndsAs (λ t u. named_end u (ended_of answer) []) world.old world.new r) }
+    ensures ends { Ended result (EndsAs (λ t u. named_end u (ended_of answer) []) world.old world.new) }
     ensures safe { LeavesEnd world.old world.new result }
 {
     match answer {
         Ok(Answer::Number(z)) => new_int(world, Ok(z as i128)),
-        Ok(Answer::Done) => Ok(Ok(Answer::Value(world.fixed(Fixed::None)))),
-        other => Ok(other),
+        Ok(Answer::Done) => Ok(Answer::Value(world.fixed(Fixed::None))),
+        other => Ok(other?),
     }
 }

@@ -1,5 +1,6 @@
 //! New tuples and lists, and the keys of a dict with their values as pairs.
 
+ghost use Rattle.py_node.specs.Stops.{Ended};
 ghost use Rattle.row_kit.specs.Below.{IfOk, [], OnOk, AreNodes, Holds, Grows, IsNode, EndsAs, LeavesEnd, the_tuple, ATuple, next_node, with_node, Reading, Reads, plain};
 ghost use Rattle.std.specs.Prelude.{◌≡◌, ◌∷◌};
 ghost use Rattle.py_node.specs.declared.built_in.BuiltIn.TheVariants.{List};
@@ -12,13 +13,13 @@ use crate::take_containers::entries;
 use class_world::World;
 use class_world::args::both;
 use py_node::task::Args;
-use py_node::{Answer, BuiltIn, OutOfMemory, Payload, PyObjectRef, Raised};
+use py_node::{Answer, BuiltIn, OutOfMemory, Payload, PyObjectRef, Stop};
 
 /// Ends with a new tuple.
 #[tactic(auto, unfolding(py_node::specs::BuiltIns::place_of))]
-pub fn new_tuple(world: &mut World, items: Args) -> Result<Result<Answer, Raised>, OutOfMemory>
+pub fn new_tuple(world: &mut World, items: Args) -> Result<Answer, Stop>
     requires { Holds world.old (AreNodes items.items) }
-    ensures ends { IfOk result (λ r. EndsAs (λ t u. tuple_made u items.items) world.old world.new r) }
+    ensures ends { Ended result (EndsAs (λ t u. tuple_made u items.items) world.old world.new) }
     ensures safe { LeavesEnd world.old world.new result }
 {
     new_object(world, BuiltIn::Tuple, Payload::Tuple(items))
@@ -26,21 +27,18 @@ pub fn new_tuple(world: &mut World, items: Args) -> Result<Result<Answer, Raised
 
 /// Ends with a new list.
 #[tactic(auto, unfolding(py_node::specs::BuiltIns::place_of))]
-pub fn new_list(world: &mut World, items: Args) -> Result<Result<Answer, Raised>, OutOfMemory>
+pub fn new_list(world: &mut World, items: Args) -> Result<Answer, Stop>
     requires { Holds world.old (AreNodes items.items) }
-    ensures ends { IfOk result (λ r. EndsAs (λ t u. list_made u items.items) world.old world.new r) }
+    ensures ends { Ended result (EndsAs (λ t u. list_made u items.items) world.old world.new) }
     ensures safe { LeavesEnd world.old world.new result }
 {
     new_object(world, BuiltIn::List, Payload::List(items))
 }
 
 /// A new tuple for each key of a dict with its value, and then a new list of these.
-pub fn new_pairs(
-    world: &mut World,
-    dict: PyObjectRef,
-) -> Result<Result<Answer, Raised>, OutOfMemory>
+pub fn new_pairs(world: &mut World, dict: PyObjectRef) -> Result<Answer, Stop>
     requires { Holds world.old (IsNode dict) }
-    ensures ends { IfOk result (λ r. EndsAs (λ t u. pairs_made u [] (entries_at u dict)) world.old world.new r) }
+    ensures ends { Ended result (EndsAs (λ t u. pairs_made u [] (entries_at u dict)) world.old world.new) }
     ensures safe { LeavesEnd world.old world.new result }
 {
     let entries = copy_entries(world.alloc(), entries(world, dict))?;

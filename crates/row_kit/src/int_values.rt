@@ -1,12 +1,13 @@
 //! Whole numbers as ints, their hashes, and the truth value that an object is.
 
-ghost use Rattle.row_kit.specs.Below.{IfOk, Reading, plain, Holds, IsNode, class_at, EndsAs, LeavesEnd};
+ghost use Rattle.py_node.specs.Stops.{Ended};
+ghost use Rattle.row_kit.specs.Below.{Reading, plain, Holds, IsNode, class_at, EndsAs, LeavesEnd};
 ghost use Rattle.std.specs.Prelude.{◌≡◌};
 ghost use Rattle.row_kit.specs.IntValues.{truth_of, as_int, is_int, number_hash};
 
 use crate::give::new_int;
 use class_world::{Fixed, World};
-use py_node::{Answer, BuiltIn, OutOfMemory, PyObjectRef, Raised};
+use py_node::{Answer, BuiltIn, PyObjectRef, Stop};
 
 /// The truth value that an object is, if it is one.
 pub fn truth_of(object: PyObjectRef) -> Option<bool>
@@ -22,17 +23,13 @@ pub fn truth_of(object: PyObjectRef) -> Option<bool>
 }
 
 /// A number as an int: an int of no other class is itself.
-pub fn as_int(
-    world: &mut World,
-    o: PyObjectRef,
-    z: i128,
-) -> Result<Result<Answer, Raised>, OutOfMemory>
+pub fn as_int(world: &mut World, o: PyObjectRef, z: i128) -> Result<Answer, Stop>
     requires { Holds world.old (IsNode o) }
-    ensures ends { IfOk result (λ r. EndsAs (λ t u. as_int u o z) world.old world.new r) }
+    ensures ends { Ended result (EndsAs (λ t u. as_int u o z) world.old world.new) }
     ensures safe { LeavesEnd world.old world.new result }
 {
     if is_int(world, o) {
-        Ok(Ok(Answer::Value(o)))
+        Ok(Answer::Value(o))
     } else {
         new_int(world, Ok(z))
     }

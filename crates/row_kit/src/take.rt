@@ -6,7 +6,7 @@ ghost use Rattle.row_kit.specs.Say.{with_number, with_lone_number, with_number_a
 
 use class_world::takes::{one, two};
 use class_world::{Fixed, World};
-use py_node::{Answer, Cause, PyObjectRef, PyStrInterned, Raised};
+use py_node::{Answer, Cause, FuncArgs, PyObjectRef, Raised};
 
 /// The number that the first argument holds, or why it is refused.
 pub fn own_number(world: &World, args: &[PyObjectRef]) -> Result<i128, Raised>
@@ -26,38 +26,30 @@ pub fn own_number(world: &World, args: &[PyObjectRef]) -> Result<i128, Raised>
 }
 
 /// The only argument and the number that it holds, or why the arguments are refused.
-pub fn lone_number(
-    world: &World,
-    args: &[PyObjectRef],
-    kw: &[(PyStrInterned, PyObjectRef)],
-) -> Result<(PyObjectRef, i128), Raised>
-    requires { Holds world.now (AreNodes args.now) }
+pub fn lone_number(world: &World, call: FuncArgs<'_>) -> Result<(PyObjectRef, i128), Raised>
+    requires { Holds world.now (AreNodes call.args.now) }
     ensures given { IfOk result (λ p. (t : Reading) (go : Object → ℤ → Said) →
-        with_lone_number (plain t world.now) args.now (bindings t kw.now) go ≡ go p.0 p.1) }
+        with_lone_number (plain t world.now) call.entry.args.now (bindings t call.entry.kw.now) go ≡ go p.0 p.1) }
     ensures refused { IfErr result (λ x. (t : Reading) (go : Object → ℤ → Said) →
-        with_lone_number (plain t world.now) args.now (bindings t kw.now) go ≡ Ends (plain t world.now) (Err x)) }
+        with_lone_number (plain t world.now) call.entry.args.now (bindings t call.entry.kw.now) go ≡ Ends (plain t world.now) (Err x)) }
     ensures node { IfOk result (λ p. Holds world.now (IsNode p.0)) }
 {
-    let z = own_number(world, args)?;
-    let o = one(args, kw)?;
+    let z = own_number(world, call.args)?;
+    let o = one(call)?;
     Ok((o, z))
 }
 
 /// The number that the first argument holds, and the second argument, or why the arguments are refused.
-pub fn number_and(
-    world: &World,
-    args: &[PyObjectRef],
-    kw: &[(PyStrInterned, PyObjectRef)],
-) -> Result<(i128, PyObjectRef), Raised>
-    requires { Holds world.now (AreNodes args.now) }
+pub fn number_and(world: &World, call: FuncArgs<'_>) -> Result<(i128, PyObjectRef), Raised>
+    requires { Holds world.now (AreNodes call.args.now) }
     ensures given { IfOk result (λ p. (t : Reading) (go : ℤ → Object → Said) →
-        with_number_and (plain t world.now) args.now (bindings t kw.now) go ≡ go p.0 p.1) }
+        with_number_and (plain t world.now) call.entry.args.now (bindings t call.entry.kw.now) go ≡ go p.0 p.1) }
     ensures refused { IfErr result (λ x. (t : Reading) (go : ℤ → Object → Said) →
-        with_number_and (plain t world.now) args.now (bindings t kw.now) go ≡ Ends (plain t world.now) (Err x)) }
+        with_number_and (plain t world.now) call.entry.args.now (bindings t call.entry.kw.now) go ≡ Ends (plain t world.now) (Err x)) }
     ensures node { IfOk result (λ p. Holds world.now (IsNode p.1)) }
 {
-    let z = own_number(world, args)?;
-    let (_, other) = two(args, kw)?;
+    let z = own_number(world, call.args)?;
+    let (_, other) = two(call)?;
     Ok((z, other))
 }
 
@@ -82,19 +74,15 @@ pub fn numbers_of(
 }
 
 /// The two numbers that the arguments hold, or how the native ends without them.
-pub fn numbers(
-    world: &World,
-    args: &[PyObjectRef],
-    kw: &[(PyStrInterned, PyObjectRef)],
-) -> Result<(i128, i128), Result<Answer, Raised>>
-    requires { Holds world.now (AreNodes args.now) }
+pub fn numbers(world: &World, call: FuncArgs<'_>) -> Result<(i128, i128), Result<Answer, Raised>>
+    requires { Holds world.now (AreNodes call.args.now) }
     ensures given { IfOk result (λ p. (t : Reading) (go : ℤ → ℤ → Said) →
-        with_numbers (plain t world.now) args.now (bindings t kw.now) go ≡ go p.0 p.1) }
+        with_numbers (plain t world.now) call.entry.args.now (bindings t call.entry.kw.now) go ≡ go p.0 p.1) }
     ensures ended { IfErr result (λ r. (t : Reading) (go : ℤ → ℤ → Said) →
-        with_numbers (plain t world.now) args.now (bindings t kw.now) go ≡ Ends (plain t world.now) (ended_of r)) }
+        with_numbers (plain t world.now) call.entry.args.now (bindings t call.entry.kw.now) go ≡ Ends (plain t world.now) (ended_of r)) }
     ensures holds { IfErr result (λ r. AllHold world.now (of_ended r)) }
 {
-    match two(args, kw) {
+    match two(call) {
         Err(raised) => Err(Err(raised)),
         Ok((a, b)) => numbers_of(world, a, b),
     }

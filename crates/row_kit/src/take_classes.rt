@@ -6,7 +6,7 @@ ghost use Rattle.row_kit.specs.TakeClasses.{with_heir, with_class, with_lone_cla
 
 use class_world::World;
 use class_world::takes::one;
-use py_node::{BuiltIn, Cause, PyObjectRef, PyStrInterned, PyTypeRef, Raised};
+use py_node::{BuiltIn, Cause, FuncArgs, PyObjectRef, PyTypeRef, Raised};
 
 /// The class that is the first argument, where its objects are those of a built-in class, or why it is refused.
 pub fn heir(world: &World, built_in: BuiltIn, args: &[PyObjectRef]) -> Result<PyTypeRef, Raised>
@@ -44,19 +44,15 @@ pub fn own_class(world: &World, args: &[PyObjectRef]) -> Result<PyTypeRef, Raise
 }
 
 /// The class that the only argument is, or why the arguments are refused.
-pub fn lone_class(
-    world: &World,
-    args: &[PyObjectRef],
-    kw: &[(PyStrInterned, PyObjectRef)],
-) -> Result<PyTypeRef, Raised>
-    requires { Holds world.now (AreNodes args.now) }
+pub fn lone_class(world: &World, call: FuncArgs<'_>) -> Result<PyTypeRef, Raised>
+    requires { Holds world.now (AreNodes call.args.now) }
     ensures given { IfOk result (λ c. (t : Reading) (go : ℕ → Said) →
-        with_lone_class (plain t world.now) args.now (bindings t kw.now) go ≡ go c.0) }
+        with_lone_class (plain t world.now) call.entry.args.now (bindings t call.entry.kw.now) go ≡ go c.0) }
     ensures refused { IfErr result (λ x. (t : Reading) (go : ℕ → Said) →
-        with_lone_class (plain t world.now) args.now (bindings t kw.now) go ≡ Ends (plain t world.now) (Err x)) }
+        with_lone_class (plain t world.now) call.entry.args.now (bindings t call.entry.kw.now) go ≡ Ends (plain t world.now) (Err x)) }
     ensures class { IfOk result (λ c. Holds world.now (IsClass c.0)) }
 {
-    let class = own_class(world, args)?;
-    let _object = one(args, kw)?;
+    let class = own_class(world, call.args)?;
+    let _object = one(call)?;
     Ok(class)
 }

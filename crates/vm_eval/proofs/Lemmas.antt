@@ -14,6 +14,7 @@ pub use Rattle.std.proofs.lemmas.Bool.{le-ltb, lt-ltb}
 pub use Rattle.vm_eval.proofs.Below.{ForAttribute, ForCall, ForCalls, ForClass, ForCompare, ForComparisons, ForDescriptor, ForDetails, ForEval, ForItems, ForIteration, ForNative, ForNumber, ForObject, ForOperator, ForParts, ForRepeats, asking_job_say, compared_job_say, detail_job_say, item_job_say, native_job_say, parts_job_say, repeat_job_say}
 pub use Rattle.vm_eval.proofs.Commands.{command-replied}
 pub use Rattle.vm_eval.proofs.Groups.{Any, On, attribute-group, begins-among, call-group, class-group, compare-group, descriptor-group, eval-group, items-group, iter-group, native-group, number-group, object-group, operator-group, resumes-among}
+pub use Rattle.row_kit.proofs.Ended.{sorted_ends}
 pub use Rattle.vm_eval.proofs.OfNatives.Families.{calls-family, comparisons-family, details-family, family-begins, family-resumes, items-family, parts-family, plain-begins, repeats-family}
 pub use Rattle.vm_eval.proofs.Rests.{none-held, none-read, quiet-held, quiet-read, rest-grows, still-none}
 pub use Rattle.vm_eval.proofs.Turns.{asked-begins, asked-limited, began, no-frames, over, resumed, spent, state-first}

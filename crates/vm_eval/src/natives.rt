@@ -15,7 +15,7 @@ use proto_attr::native_calls::NativeKept;
 use proto_attr::native_details::DetailKept;
 use proto_ops::native_repeats::RepeatKept;
 use py_node::task::{Args, Keywords};
-use py_node::{Answer, NativeEntry, OutOfMemory, Raised, Step};
+use py_node::{Answer, FuncArgs, NativeEntry, OutOfMemory, Raised, Step, caught};
 
 pub mod family;
 mod plain;
@@ -68,7 +68,14 @@ pub fn begin(
             Ok(of_calls(step))
         }
         Family::Plain => {
-            let answer = plain_native(world, entry, &args, &kw)?;
+            let answer = caught(plain_native(
+                world,
+                entry,
+                FuncArgs {
+                    args: &args,
+                    kw: &kw,
+                },
+            ))?;
             Ok(Step::End(answer))
         }
     }

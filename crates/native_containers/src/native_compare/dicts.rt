@@ -10,7 +10,7 @@ use crate::native_compare::sequences::both;
 use crate::native_compare::turn::compare;
 use class_world::{Fixed, World};
 use py_node::task::Args;
-use py_node::{Answer, CompareNative, OutOfMemory, PyObjectRef, PyStrInterned, Step};
+use py_node::{Answer, CompareNative, FuncArgs, OutOfMemory, PyObjectRef, Step};
 use row_kit::entries::values_of;
 use row_kit::take_containers::{Kind, entries};
 
@@ -18,15 +18,14 @@ use row_kit::take_containers::{Kind, entries};
 pub(crate) fn dicts(
     world: &World,
     native: CompareNative,
-    args: &[PyObjectRef],
-    kw: &[(PyStrInterned, PyObjectRef)],
+    call: FuncArgs<'_>,
 ) -> Result<Step<ComparedKept>, OutOfMemory>
-    requires { Holds world.now (AreNodes args.now) }
+    requires { Holds world.now (AreNodes call.args.now) }
     ensures goes { IfOk result (λ step. Compares native
-        (λ t u. dicts_by u native args.now (bindings t kw.now)) world.now step) }
+        (λ t u. dicts_by u native call.entry.args.now (bindings t call.entry.kw.now)) world.now step) }
     ensures safe { IfOk result (λ step. AllHold world.now (of_step of_compared_kept step)) }
 {
-    match both(world, Kind::Dict, args, kw) {
+    match both(world, Kind::Dict, call) {
         Err(ended) => Ok(Step::End(ended)),
         Ok((a, b)) => match native {
             CompareNative::Eq => dicts_equal(world, native, false, a, b),

@@ -1,5 +1,6 @@
 //! A character or a part of a text.
 
+ghost use Rattle.py_node.specs.Stops.{Ended};
 ghost use Rattle.native_containers.specs.Below.{[], IfOk, option_map, slice_range, string_bytes, chars, encode_utf8_all, OfStr, datum_at, of_ended, Leaves, EndsAs, LeavesEnd, Reading, ended_of, plain, AllHold, AreNodes, Holds, IsNode, of_node_ref, of_option, argument, text_of};
 ghost use Rattle.std.specs.Prelude.{◌≡◌};
 ghost use Rattle.py_node.specs.declared.entry.StrNative.TheVariants.{GetItem};
@@ -15,7 +16,7 @@ use crate::native_texts::text_length;
 use class_world::{Fixed, World};
 use py_node::protocol::ProtocolTask;
 use py_node::{
-    Answer, Cause, OutOfMemory, PyObjectRef, PySlice, PyStrInterned, Raised, Step, Task,
+    Answer, Cause, FuncArgs, OutOfMemory, PyObjectRef, PySlice, Raised, Step, Stop, Task, caught,
 };
 use row_kit::give::new_text;
 use std::alloc::Global;
@@ -23,24 +24,23 @@ use std::alloc::Global;
 /// A character, or a part, of a text as a new text.
 pub(crate) fn get_character(
     world: &mut World,
-    args: &[PyObjectRef],
-    kw: &[(PyStrInterned, PyObjectRef)],
+    call: FuncArgs<'_>,
 ) -> Result<Step<ItemKept>, OutOfMemory>
-    requires { Holds world.old (AreNodes args.now) }
-    ensures goes { IfOk result (λ step. Enters (OfStr GetItem) args.now kw.now world.old world.new step) }
+    requires { Holds world.old (AreNodes call.args.now) }
+    ensures goes { IfOk result (λ step. Enters (OfStr GetItem) call.entry.args.now call.entry.kw.now world.old world.new step) }
     ensures safe { Leaves of_item_kept world.old world.new result }
 {
-    match text_and(world, args, kw) {
+    match text_and(world, call) {
         Err(raised) => Ok(Step::End(Err(raised))),
         Ok((text, key)) => match slice_of(world, key) {
             Some(slice) => {
                 let part = text_part(world, slice, text)?;
-                let ended = new_text(world, part)?;
+                let ended = caught(new_text(world, part))?;
                 Ok(Step::End(ended))
             }
             None => {
                 let task = Task::Protocol(ProtocolTask::Index(key));
-                let object = first_argument(world, args);
+                let object = first_argument(world, call.args);
                 Ok(Step::Ask(task, ItemKept::GettingCharacter(object)))
             }
         },
@@ -88,19 +88,19 @@ pub(crate) fn character_given(
     world: &mut World,
     object: PyObjectRef,
     answer: Result<Answer, Raised>,
-) -> Result<Result<Answer, Raised>, OutOfMemory>
+) -> Result<Answer, Stop>
     requires object { Holds world.old (IsNode object) }
     requires answer { AllHold world.old (of_ended answer) }
-    ensures ends { IfOk result (λ r. EndsAs (λ t u. char_rest u (chars_at u object) (ended_of answer) [])
-        world.old world.new r) }
+    ensures ends { Ended result (EndsAs (λ t u. char_rest u (chars_at u object) (ended_of answer) [])
+        world.old world.new) }
     ensures safe { LeavesEnd world.old world.new result }
 {
     match answer {
         Ok(Answer::Value(index)) => match character_at(world, object, index)? {
-            None => Ok(Err(Raised::new(Cause::IndexOut))),
+            None => Err(Stop::raise(Cause::IndexOut)),
             Some(text) => new_text(world, text),
         },
-        other => Ok(other),
+        other => Ok(other?),
     }
 }
 

@@ -1,5 +1,6 @@
 //! An item or a part of a list is taken out.
 
+ghost use Rattle.py_node.specs.Stops.{Ended};
 ghost use Rattle.native_containers.specs.Below.{[], suc, take, drop, IfOk, length, DelItem, OfList, of_ended, Leaves, ended_of, EndsAs, LeavesEnd, AllHold, AreNodes, Grows, Holding, Holds, IsNode, items_at};
 ghost use Rattle.std.specs.Prelude.{◌≡◌, ◌∷◌, ◌++◌};
 ghost use Rattle.py_node.specs.declared.built_in.BuiltIn.TheVariants.{List};
@@ -17,20 +18,21 @@ use class_world::World;
 use class_world::limits::is_within_limit;
 use py_node::protocol::ProtocolTask;
 use py_node::task::Args;
-use py_node::{Answer, Cause, OutOfMemory, PyObjectRef, PyStrInterned, Raised, Step, Task};
+use py_node::{
+    Answer, Cause, FuncArgs, OutOfMemory, PyObjectRef, Raised, Step, Stop, Task, caught,
+};
 use row_kit::take_containers::{Kind, items};
 
 /// An item of a list is taken out, or a part of it.
 pub(crate) fn delete_item(
     world: &mut World,
-    args: &[PyObjectRef],
-    kw: &[(PyStrInterned, PyObjectRef)],
+    call: FuncArgs<'_>,
 ) -> Result<Step<ItemKept>, OutOfMemory>
-    requires { Holds world.old (AreNodes args.now) }
-    ensures goes { IfOk result (λ step. Enters (OfList DelItem) args.now kw.now world.old world.new step) }
+    requires { Holds world.old (AreNodes call.args.now) }
+    ensures goes { IfOk result (λ step. Enters (OfList DelItem) call.entry.args.now call.entry.kw.now world.old world.new step) }
     ensures safe { Leaves of_item_kept world.old world.new result }
 {
-    match own_and(world, Kind::List, args, kw) {
+    match own_and(world, Kind::List, call) {
         Err(raised) => Ok(Step::End(Err(raised))),
         Ok((list, key)) => delete_asked(world, list, key),
     }
@@ -52,7 +54,7 @@ fn delete_asked(
     match slice_of(world, key) {
         Some(slice) => {
             let none = Vec::new(world.alloc());
-            let ended = replace_part(world, list, slice, none)?;
+            let ended = caught(replace_part(world, list, slice, none))?;
             Ok(Step::End(ended))
         }
         None => {
@@ -69,18 +71,18 @@ pub(crate) fn item_deleted(
     list: PyObjectRef,
     stood: Option<Args>,
     answer: Result<Answer, Raised>,
-) -> Result<Result<Answer, Raised>, OutOfMemory>
+) -> Result<Answer, Stop>
     requires list { Holds world.old (IsNode list) }
     requires holding { Holds world.old (Holding list List) }
     requires stood { AllHold world.old (of_stood stood) }
     requires answer { AllHold world.old (of_ended answer) }
-    ensures ends { IfOk result (λ r. EndsAs (λ t u.
-        del_rest u list (items_stood u stood list) (ended_of answer) []) world.old world.new r) }
+    ensures ends { Ended result (EndsAs (λ t u.
+        del_rest u list (items_stood u stood list) (ended_of answer) []) world.old world.new) }
     ensures safe { LeavesEnd world.old world.new result }
 {
     match answer {
-        Ok(Answer::Value(index)) => Ok(take_out(world, list, index, stood)),
-        other => Ok(other),
+        Ok(Answer::Value(index)) => Ok(take_out(world, list, index, stood)?),
+        other => Ok(other?),
     }
 }
 

@@ -1,5 +1,6 @@
 //! An item or a part of a tuple or a list.
 
+ghost use Rattle.py_node.specs.Stops.{Ended};
 ghost use Rattle.native_containers.specs.Below.{[], IfOk, of_ended, Leaves, ended_of, EndsAs, LeavesEnd, AllHold, AreNodes, Holds, IsNode};
 ghost use Rattle.std.specs.Prelude.{◌≡◌, ◌∷◌};
 ghost use Rattle.native_containers.specs.NativeItems.Items.{get_item, item_got};
@@ -12,7 +13,9 @@ use crate::take::own_and;
 use class_world::World;
 use py_node::protocol::ProtocolTask;
 use py_node::task::Args;
-use py_node::{Answer, Cause, OutOfMemory, PyObjectRef, PyStrInterned, Raised, Step, Task};
+use py_node::{
+    Answer, Cause, FuncArgs, OutOfMemory, PyObjectRef, Raised, Step, Stop, Task, caught,
+};
 use row_kit::give_containers::{new_list, new_tuple};
 use row_kit::take_containers::{Kind, items};
 
@@ -37,14 +40,13 @@ pub(crate) fn kind_of(sequence: Sequence) -> Kind
 pub(crate) fn get_item(
     world: &mut World,
     sequence: Sequence,
-    args: &[PyObjectRef],
-    kw: &[(PyStrInterned, PyObjectRef)],
+    call: FuncArgs<'_>,
 ) -> Result<Step<ItemKept>, OutOfMemory>
-    requires { Holds world.old (AreNodes args.now) }
-    ensures goes { IfOk result (λ step. Enters (getter_of sequence) args.now kw.now world.old world.new step) }
+    requires { Holds world.old (AreNodes call.args.now) }
+    ensures goes { IfOk result (λ step. Enters (getter_of sequence) call.entry.args.now call.entry.kw.now world.old world.new step) }
     ensures safe { Leaves of_item_kept world.old world.new result }
 {
-    match own_and(world, kind_of(sequence), args, kw) {
+    match own_and(world, kind_of(sequence), call) {
         Err(raised) => Ok(Step::End(Err(raised))),
         Ok((object, key)) => item_asked(world, sequence, object, key),
     }
@@ -66,7 +68,7 @@ fn item_asked(
     match slice_of(world, key) {
         Some(slice) => {
             let part = part(world, slice, items(world, object))?;
-            let ended = made(world, sequence, part)?;
+            let ended = caught(made(world, sequence, part))?;
             Ok(Step::End(ended))
         }
         None => {
@@ -78,13 +80,9 @@ fn item_asked(
 }
 
 // Ends with a new object of these items.
-fn made(
-    world: &mut World,
-    sequence: Sequence,
-    items: Args,
-) -> Result<Result<Answer, Raised>, OutOfMemory>
+fn made(world: &mut World, sequence: Sequence, items: Args) -> Result<Answer, Stop>
     requires { Holds world.old (AreNodes items.items) }
-    ensures ends { IfOk result (λ r. EndsAs (λ t u. made_as sequence u items.items) world.old world.new r) }
+    ensures ends { Ended result (EndsAs (λ t u. made_as sequence u items.items) world.old world.new) }
     ensures safe { LeavesEnd world.old world.new result }
 {
     match sequence {

@@ -10,8 +10,8 @@ use crate::take::lone;
 use class_world::World;
 use class_world::args::alone;
 use py_node::{
-    Answer, AttributeTask, BuiltIn, Cause, Kind as FaultKind, Known, OutOfMemory, Payload,
-    PyObjectRef, PyStrInterned, Raised, SequenceIterator, Step, Task,
+    Answer, AttributeTask, BuiltIn, Cause, FuncArgs, Kind as FaultKind, Known, OutOfMemory,
+    Payload, PyObjectRef, Raised, SequenceIterator, Step, Task,
 };
 use row_kit::take_containers::Kind;
 
@@ -27,14 +27,13 @@ pub enum Found {
 /// The next item of an iterator.
 pub(crate) fn next_item(
     world: &mut World,
-    args: &[PyObjectRef],
-    kw: &[(PyStrInterned, PyObjectRef)],
+    call: FuncArgs<'_>,
 ) -> Result<Step<ItemKept>, OutOfMemory>
-    requires { Holds world.old (AreNodes args.now) }
-    ensures goes { IfOk result (λ step. Enters (OfIterator Next) args.now kw.now world.old world.new step) }
+    requires { Holds world.old (AreNodes call.args.now) }
+    ensures goes { IfOk result (λ step. Enters (OfIterator Next) call.entry.args.now call.entry.kw.now world.old world.new step) }
     ensures safe { Leaves of_item_kept world.old world.new result }
 {
-    match lone(world, Kind::Iterator, args, kw) {
+    match lone(world, Kind::Iterator, call) {
         Err(raised) => Ok(Step::End(Err(raised))),
         Ok(iterator) => next_from(world, iterator),
     }

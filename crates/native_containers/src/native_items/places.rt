@@ -1,5 +1,6 @@
 //! Where numbers and slices lead among items, and the parts of lists that slices name.
 
+ghost use Rattle.py_node.specs.Stops.{Ended};
 ghost use Rattle.native_containers.specs.Below.{IfOk, IfSome, length, max, slice_range, Reading, plain, EndsAs, LeavesEnd, AllHold, AreNodes, Holding, Holds, IsNode, of_node_ref, of_option, items_at};
 ghost use Rattle.std.specs.Prelude.{◌≡◌, ◌<◌, ◌≤◌};
 ghost use Rattle.py_node.specs.declared.built_in.BuiltIn.TheVariants.{List};
@@ -10,7 +11,7 @@ use crate::made::ends_none;
 use class_world::World;
 use class_world::limits::is_within_limit;
 use py_node::task::Args;
-use py_node::{Answer, Cause, OutOfMemory, Payload, PyObjectRef, PySlice, Raised};
+use py_node::{Answer, Cause, OutOfMemory, Payload, PyObjectRef, PySlice, Stop};
 use row_kit::take_containers::items;
 use std::alloc::Global;
 
@@ -22,7 +23,7 @@ pub(crate) fn slice_of(world: &World, object: PyObjectRef) -> Option<PySlice>
     ensures stop { IfSome result (λ s. AllHold world.now (of_option of_node_ref s.stop)) }
 {
     match world.payload(object) {
-        Payload::Slice(slice) => Some(*slice),
+        Payload::Slice(slice) => Some(*slice.get()),
         _ => None,
     }
 }
@@ -186,24 +187,24 @@ pub(crate) fn replace_part(
     list: PyObjectRef,
     slice: PySlice,
     others: Args,
-) -> Result<Result<Answer, Raised>, OutOfMemory>
+) -> Result<Answer, Stop>
     requires list { Holds world.old (IsNode list) }
     requires holding { Holds world.old (Holding list List) }
     requires start { AllHold world.old (of_option of_node_ref slice.start) }
     requires stop { AllHold world.old (of_option of_node_ref slice.stop) }
     requires others { Holds world.old (AreNodes others.items) }
-    ensures ends { IfOk result (λ r. EndsAs (λ t u. list_changed u list (put_part u slice (items_at u list) others.items))
-        world.old world.new r) }
+    ensures ends { Ended result (EndsAs (λ t u. list_changed u list (put_part u slice (items_at u list) others.items))
+        world.old world.new) }
     ensures safe { LeavesEnd world.old world.new result }
 {
     let count = items(world, list).len();
     let (start, stop) = bounds(world, slice, count);
     let after = later(start, stop);
     if !is_within_limit(start + others.len() + (count - after)) {
-        return Ok(Err(Raised::new(Cause::TooLong)));
+        return Err(Stop::raise(Cause::TooLong));
     }
     world.splice_items(list, start, after, others)?;
-    Ok(ends_none(world))
+    Ok(ends_none(world)?)
 }
 
 // The later of two places.

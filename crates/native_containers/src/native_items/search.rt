@@ -12,21 +12,20 @@ use crate::take::own_and;
 use class_world::World;
 use class_world::args::copy_args;
 use py_node::task::Args;
-use py_node::{Answer, CompareTask, OutOfMemory, PyObjectRef, PyStrInterned, Raised, Step, Task};
+use py_node::{Answer, CompareTask, FuncArgs, OutOfMemory, PyObjectRef, Raised, Step, Task};
 use row_kit::take_containers::items;
 
 /// Whether an item is an object, or equal to it.
 pub(crate) fn contains(
     world: &World,
     sequence: Sequence,
-    args: &[PyObjectRef],
-    kw: &[(PyStrInterned, PyObjectRef)],
+    call: FuncArgs<'_>,
 ) -> Result<Step<ItemKept>, OutOfMemory>
-    requires { Holds world.now (AreNodes args.now) }
-    ensures goes { IfOk result (λ step. Enters (searcher_of sequence) args.now kw.now world.now world.now step) }
+    requires { Holds world.now (AreNodes call.args.now) }
+    ensures goes { IfOk result (λ step. Enters (searcher_of sequence) call.entry.args.now call.entry.kw.now world.now world.now step) }
     ensures safe { Leaves of_item_kept world.now world.now result }
 {
-    match own_and(world, kind_of(sequence), args, kw) {
+    match own_and(world, kind_of(sequence), call) {
         Err(raised) => Ok(Step::End(Err(raised))),
         Ok((object, needle)) => first_asked(world, sequence, object, needle),
     }

@@ -1,5 +1,6 @@
 //! An item or a part of a list is set.
 
+ghost use Rattle.py_node.specs.Stops.{Ended};
 ghost use Rattle.native_containers.specs.Below.{[], IfOk, length, slice_set, SetItem, OfList, of_ended, Leaves, ended_of, EndsAs, LeavesEnd, AllHold, AreNodes, Grows, Holding, Holds, IsNode, items_at};
 ghost use Rattle.std.specs.Prelude.{◌≡◌, ◌∷◌};
 ghost use Rattle.py_node.specs.declared.built_in.BuiltIn.TheVariants.{List};
@@ -17,21 +18,17 @@ use class_world::World;
 use class_world::limits::is_within_limit;
 use py_node::protocol::ProtocolTask;
 use py_node::task::Args;
-use py_node::{Answer, Cause, OutOfMemory, PyObjectRef, PyStrInterned, Raised, Step, Task};
+use py_node::{Answer, Cause, FuncArgs, OutOfMemory, PyObjectRef, Raised, Step, Stop, Task};
 use row_kit::proto_base::is_plain;
 use row_kit::take_containers::{Kind, items};
 
 /// An item of a list is set, or a part of it to the items of an iteration.
-pub(crate) fn set_item(
-    world: &World,
-    args: &[PyObjectRef],
-    kw: &[(PyStrInterned, PyObjectRef)],
-) -> Result<Step<ItemKept>, OutOfMemory>
-    requires { Holds world.now (AreNodes args.now) }
-    ensures goes { IfOk result (λ step. Enters (OfList SetItem) args.now kw.now world.now world.now step) }
+pub(crate) fn set_item(world: &World, call: FuncArgs<'_>) -> Result<Step<ItemKept>, OutOfMemory>
+    requires { Holds world.now (AreNodes call.args.now) }
+    ensures goes { IfOk result (λ step. Enters (OfList SetItem) call.entry.args.now call.entry.kw.now world.now world.now step) }
     ensures safe { Leaves of_item_kept world.now world.now result }
 {
-    match own_and_two(world, Kind::List, args, kw) {
+    match own_and_two(world, Kind::List, call) {
         Err(raised) => Ok(Step::End(Err(raised))),
         Ok((list, key, value)) => set_asked(world, list, key, value),
     }
@@ -74,21 +71,21 @@ pub(crate) fn item_set(
     value: PyObjectRef,
     stood: Option<Args>,
     answer: Result<Answer, Raised>,
-) -> Result<Result<Answer, Raised>, OutOfMemory>
+) -> Result<Answer, Stop>
     requires list { Holds world.old (IsNode list) }
     requires holding { Holds world.old (Holding list List) }
     requires key { Holds world.old (IsNode key) }
     requires value { Holds world.old (IsNode value) }
     requires stood { AllHold world.old (of_stood stood) }
     requires answer { AllHold world.old (of_ended answer) }
-    ensures ends { IfOk result (λ r. EndsAs (λ t u.
-        set_rest u list key value (items_stood u stood list) (ended_of answer) []) world.old world.new r) }
+    ensures ends { Ended result (EndsAs (λ t u.
+        set_rest u list key value (items_stood u stood list) (ended_of answer) []) world.old world.new) }
     ensures safe { LeavesEnd world.old world.new result }
 {
     match answer {
         Ok(Answer::Objects(values)) => put_values(world, list, key, stood, values),
-        Ok(Answer::Value(index)) => Ok(put_value(world, list, index, stood, value)),
-        other => Ok(other),
+        Ok(Answer::Value(index)) => Ok(put_value(world, list, index, stood, value)?),
+        other => Ok(other?),
     }
 }
 
@@ -179,23 +176,23 @@ fn put_values(
     key: PyObjectRef,
     stood: Option<Args>,
     values: Args,
-) -> Result<Result<Answer, Raised>, OutOfMemory>
+) -> Result<Answer, Stop>
     requires list { Holds world.old (IsNode list) }
     requires holding { Holds world.old (Holding list List) }
     requires key { Holds world.old (IsNode key) }
     requires stood { AllHold world.old (of_stood stood) }
     requires values { Holds world.old (AreNodes values.items) }
-    ensures ends { IfOk result (λ r. EndsAs (λ t u.
-        part_set u (slice_at u key) list (items_stood u stood list) values.items) world.old world.new r) }
+    ensures ends { Ended result (EndsAs (λ t u.
+        part_set u (slice_at u key) list (items_stood u stood list) values.items) world.old world.new) }
     ensures safe { LeavesEnd world.old world.new result }
 {
     match slice_of(world, key) {
-        None => Ok(Err(Raised::new(Cause::IndexOut))),
+        None => Err(Stop::raise(Cause::IndexOut)),
         Some(slice) => match stood {
             None => replace_part(world, list, slice, values),
             Some(items) => {
                 let all = put_part(world, slice, &items, &values)?;
-                Ok(change_list(world, list, all))
+                Ok(change_list(world, list, all)?)
             }
         },
     }

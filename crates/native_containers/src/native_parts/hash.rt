@@ -10,7 +10,7 @@ use crate::native_parts::PartsKept;
 use crate::native_parts::take::{Container, lone, part_at, parts_of};
 use class_world::World;
 use py_node::task::Args;
-use py_node::{Answer, ObjectTask, OutOfMemory, PyObjectRef, PyStrInterned, Raised, Step, Task};
+use py_node::{Answer, FuncArgs, ObjectTask, OutOfMemory, Raised, Step, Task};
 use row_kit::int_values::number_hash;
 
 /// The items of a tuple, how many of them were asked for their hashes, and the hash of those that answered.
@@ -22,17 +22,13 @@ pub struct Hashing {
 }
 
 /// Asks the items of a tuple for their hashes.
-pub(crate) fn begin_hash(
-    world: &World,
-    args: &[PyObjectRef],
-    kw: &[(PyStrInterned, PyObjectRef)],
-) -> Result<Step<PartsKept>, OutOfMemory>
-    requires { Holds world.now (AreNodes args.now) }
+pub(crate) fn begin_hash(world: &World, call: FuncArgs<'_>) -> Result<Step<PartsKept>, OutOfMemory>
+    requires { Holds world.now (AreNodes call.args.now) }
     ensures goes { IfOk result (λ step.
-        Starts (OfTuple tuple.Hash) args.now kw.now world.now world.now step) }
+        Starts (OfTuple tuple.Hash) call.entry.args.now call.entry.kw.now world.now world.now step) }
     ensures safe { Leaves of_parts_kept world.now world.now result }
 {
-    match lone(world, Container::Tuple, args, kw) {
+    match lone(world, Container::Tuple, call) {
         Err(raised) => Ok(Step::End(Err(raised))),
         Ok(object) => {
             let items = parts_of(world, object)?;

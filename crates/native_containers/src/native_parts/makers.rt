@@ -13,26 +13,25 @@ use class_world::{Fixed, World};
 use py_node::protocol::ProtocolTask;
 use py_node::task::Args;
 use py_node::{
-    Answer, BuiltIn, ObjectTask, OutOfMemory, Payload, PyObjectRef, PyStrInterned, PyTypeRef,
-    Raised, Step, Task,
+    Answer, BuiltIn, FuncArgs, ObjectTask, OutOfMemory, Payload, PyObjectRef, PyTypeRef, Raised,
+    Step, Task,
 };
 use row_kit::take_classes::heir;
 
 /// A new text is that of an object, or empty.
 pub(crate) fn begin_str(
     world: &mut World,
-    args: &[PyObjectRef],
-    kw: &[(PyStrInterned, PyObjectRef)],
+    call: FuncArgs<'_>,
 ) -> Result<Step<PartsKept>, OutOfMemory>
-    requires { Holds world.old (AreNodes args.now) }
-    ensures goes { IfOk result (λ step. Starts (NewOf built_in.Str) args.now kw.now world.old world.new step) }
+    requires { Holds world.old (AreNodes call.args.now) }
+    ensures goes { IfOk result (λ step. Starts (NewOf built_in.Str) call.entry.args.now call.entry.kw.now world.old world.new step) }
     ensures safe { Leaves of_parts_kept world.old world.new result }
 {
-    let class = match heir(world, BuiltIn::Str, args) {
+    let class = match heir(world, BuiltIn::Str, call.args) {
         Err(raised) => return Ok(Step::End(Err(raised))),
         Ok(class) => class,
     };
-    match one_at_most(args, kw) {
+    match one_at_most(call) {
         Err(raised) => Ok(Step::End(Err(raised))),
         Ok(None) => {
             let text = String::new(world.alloc());
@@ -70,18 +69,17 @@ pub(crate) fn str_made(
 /// A new tuple has the items of an iteration, or none.
 pub(crate) fn begin_tuple(
     world: &mut World,
-    args: &[PyObjectRef],
-    kw: &[(PyStrInterned, PyObjectRef)],
+    call: FuncArgs<'_>,
 ) -> Result<Step<PartsKept>, OutOfMemory>
-    requires { Holds world.old (AreNodes args.now) }
-    ensures goes { IfOk result (λ step. Starts (NewOf built_in.Tuple) args.now kw.now world.old world.new step) }
+    requires { Holds world.old (AreNodes call.args.now) }
+    ensures goes { IfOk result (λ step. Starts (NewOf built_in.Tuple) call.entry.args.now call.entry.kw.now world.old world.new step) }
     ensures safe { Leaves of_parts_kept world.old world.new result }
 {
-    let class = match heir(world, BuiltIn::Tuple, args) {
+    let class = match heir(world, BuiltIn::Tuple, call.args) {
         Err(raised) => return Ok(Step::End(Err(raised))),
         Ok(class) => class,
     };
-    match one_at_most(args, kw) {
+    match one_at_most(call) {
         Err(raised) => Ok(Step::End(Err(raised))),
         Ok(None) => {
             let items = Vec::new(world.alloc());
@@ -115,18 +113,17 @@ pub(crate) fn tuple_made(
 /// A list gets the items of an iteration, or none, in the place of its own.
 pub(crate) fn begin_list(
     world: &mut World,
-    args: &[PyObjectRef],
-    kw: &[(PyStrInterned, PyObjectRef)],
+    call: FuncArgs<'_>,
 ) -> Result<Step<PartsKept>, OutOfMemory>
-    requires { Holds world.old (AreNodes args.now) }
-    ensures goes { IfOk result (λ step. Starts (OfList list.Init) args.now kw.now world.old world.new step) }
+    requires { Holds world.old (AreNodes call.args.now) }
+    ensures goes { IfOk result (λ step. Starts (OfList list.Init) call.entry.args.now call.entry.kw.now world.old world.new step) }
     ensures safe { Leaves of_parts_kept world.old world.new result }
 {
-    let list = match own_list(world, args) {
+    let list = match own_list(world, call.args) {
         Err(raised) => return Ok(Step::End(Err(raised))),
         Ok(list) => list,
     };
-    match one_at_most(args, kw) {
+    match one_at_most(call) {
         Err(raised) => Ok(Step::End(Err(raised))),
         Ok(None) => {
             let items = Vec::new(world.alloc());

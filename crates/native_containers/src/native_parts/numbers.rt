@@ -10,26 +10,25 @@ use crate::native_parts::take::one_at_most;
 use class_world::World;
 use py_node::protocol::ProtocolTask;
 use py_node::{
-    Answer, BuiltIn, Cause, OutOfMemory, Payload, PyObjectRef, PyStrInterned, PyTypeRef, Raised,
-    Step, Task,
+    Answer, BuiltIn, Cause, FuncArgs, OutOfMemory, Payload, PyObjectRef, PyTypeRef, Raised, Step,
+    Task,
 };
 use row_kit::take_classes::heir;
 
 /// A new whole number is that of an object, or 0.
 pub(crate) fn begin_int(
     world: &mut World,
-    args: &[PyObjectRef],
-    kw: &[(PyStrInterned, PyObjectRef)],
+    call: FuncArgs<'_>,
 ) -> Result<Step<PartsKept>, OutOfMemory>
-    requires { Holds world.old (AreNodes args.now) }
-    ensures goes { IfOk result (λ step. Starts (NewOf built_in.Int) args.now kw.now world.old world.new step) }
+    requires { Holds world.old (AreNodes call.args.now) }
+    ensures goes { IfOk result (λ step. Starts (NewOf built_in.Int) call.entry.args.now call.entry.kw.now world.old world.new step) }
     ensures safe { Leaves of_parts_kept world.old world.new result }
 {
-    let class = match heir(world, BuiltIn::Int, args) {
+    let class = match heir(world, BuiltIn::Int, call.args) {
         Err(raised) => return Ok(Step::End(Err(raised))),
         Ok(class) => class,
     };
-    match one_at_most(args, kw) {
+    match one_at_most(call) {
         Err(raised) => Ok(Step::End(Err(raised))),
         Ok(None) => {
             let node = world.make_node(class, Payload::Number(0))?;
@@ -68,19 +67,15 @@ pub(crate) fn int_made(
 }
 
 /// A truth value is that of an object, or False.
-pub(crate) fn begin_bool(
-    world: &World,
-    args: &[PyObjectRef],
-    kw: &[(PyStrInterned, PyObjectRef)],
-) -> Step<PartsKept>
-    requires { Holds world.now (AreNodes args.now) }
-    ensures goes { Starts (NewOf built_in.Bool) args.now kw.now world.now world.now result }
+pub(crate) fn begin_bool(world: &World, call: FuncArgs<'_>) -> Step<PartsKept>
+    requires { Holds world.now (AreNodes call.args.now) }
+    ensures goes { Starts (NewOf built_in.Bool) call.entry.args.now call.entry.kw.now world.now world.now result }
     ensures safe { AllHold world.now (of_step of_parts_kept result) }
 {
-    if let Err(raised) = heir(world, BuiltIn::Bool, args) {
+    if let Err(raised) = heir(world, BuiltIn::Bool, call.args) {
         return Step::End(Err(raised));
     }
-    match one_at_most(args, kw) {
+    match one_at_most(call) {
         Err(raised) => Step::End(Err(raised)),
         Ok(None) => Step::End(Ok(Answer::Value(world.truth(false)))),
         Ok(Some(object)) => Step::Ask(

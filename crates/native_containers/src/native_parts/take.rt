@@ -13,7 +13,7 @@ use class_world::World;
 use class_world::args::copy_args;
 use class_world::takes::{one, two};
 use py_node::task::Args;
-use py_node::{Cause, OutOfMemory, Payload, PyObjectRef, PyStrInterned, Raised};
+use py_node::{Cause, FuncArgs, OutOfMemory, Payload, PyObjectRef, Raised};
 use std::alloc::Global;
 
 /// A container, whose text is made of those of its parts.
@@ -41,24 +41,23 @@ fn is_of(world: &World, container: Container, object: PyObjectRef) -> bool
 pub(crate) fn lone(
     world: &World,
     container: Container,
-    args: &[PyObjectRef],
-    kw: &[(PyStrInterned, PyObjectRef)],
+    call: FuncArgs<'_>,
 ) -> Result<PyObjectRef, Raised>
-    requires { Holds world.now (AreNodes args.now) }
+    requires { Holds world.now (AreNodes call.args.now) }
     ensures given { IfOk result (λ o. (t : Reading) (go : Object → Said) →
-        with_lone (kind_of container) (plain t world.now) args.now (bindings t kw.now) go ≡ go o) }
+        with_lone (kind_of container) (plain t world.now) call.entry.args.now (bindings t call.entry.kw.now) go ≡ go o) }
     ensures refused { IfErr result (λ x. (t : Reading) (go : Object → Said) →
-        with_lone (kind_of container) (plain t world.now) args.now (bindings t kw.now) go ≡
+        with_lone (kind_of container) (plain t world.now) call.entry.args.now (bindings t call.entry.kw.now) go ≡
         Ends (plain t world.now) (Err x)) }
     ensures node { IfOk result (λ o. Holds world.now (IsNode o)) }
 {
-    let [object, ..] = args else {
+    let [object, ..] = call.args else {
         return Err(Raised::new(Cause::ArgCount));
     };
     if !is_of(world, container, *object) {
         return Err(Raised::new(Cause::SelfType));
     }
-    let _object = one(args, kw)?;
+    let _object = one(call)?;
     Ok(*object)
 }
 
@@ -82,23 +81,20 @@ pub(crate) fn own_list(world: &World, args: &[PyObjectRef]) -> Result<PyObjectRe
 }
 
 /// The argument after the first, if there is one, or why the arguments are refused.
-pub(crate) fn one_at_most(
-    args: &[PyObjectRef],
-    kw: &[(PyStrInterned, PyObjectRef)],
-) -> Result<Option<PyObjectRef>, Raised>
+pub(crate) fn one_at_most(call: FuncArgs<'_>) -> Result<Option<PyObjectRef>, Raised>
     ensures given { IfOk result (λ o. (t : Reading) (w : PlainWorld) (without : Said) (go : Object → Said) →
-        with_one_at_most w args.now (bindings t kw.now) without go ≡ chosen without go o) }
+        with_one_at_most w call.entry.args.now (bindings t call.entry.kw.now) without go ≡ chosen without go o) }
     ensures refused { IfErr result (λ x. (t : Reading) (w : PlainWorld) (without : Said) (go : Object → Said) →
-        with_one_at_most w args.now (bindings t kw.now) without go ≡ Ends w (Err x)) }
-    ensures node { IfOk result (λ o. IfSome o (λ r. (w : Held) → Holds w (AreNodes args.now) → Holds w (IsNode r))) }
+        with_one_at_most w call.entry.args.now (bindings t call.entry.kw.now) without go ≡ Ends w (Err x)) }
+    ensures node { IfOk result (λ o. IfSome o (λ r. (w : Held) → Holds w (AreNodes call.entry.args.now) → Holds w (IsNode r))) }
 {
-    if args.len() == 2 {
-        match two(args, kw) {
+    if call.args.len() == 2 {
+        match two(call) {
             Err(raised) => Err(raised),
             Ok((_object, other)) => Ok(Some(other)),
         }
     } else {
-        match one(args, kw) {
+        match one(call) {
             Err(raised) => Err(raised),
             Ok(_object) => Ok(None),
         }

@@ -1,5 +1,6 @@
 //! The texts of tuples, lists and dicts, which are made of those of their parts.
 
+ghost use Rattle.py_node.specs.Stops.{Ended, IfRaised};
 ghost use Rattle.native_containers.specs.Below.{Ok, Err, IfErr, IfOk, OnOk, string_bytes, of_ended, Leaves, Reading, plain, EndsAs, LeavesEnd, AllHold, AreNodes, Holds, IsNode, in_length};
 ghost use Rattle.std.specs.Prelude.{◌≡◌, ◌++◌};
 ghost use Rattle.native_containers.specs.NativeParts.Rows.{IsNoObject, Resumes, Starts, Takes, left, of_parts, of_parts_kept, repr_of};
@@ -11,7 +12,7 @@ use class_world::World;
 use class_world::limits::{MOST_ITEMS, is_within_limit};
 use py_node::task::Args;
 use py_node::{
-    Answer, Cause, ObjectTask, OutOfMemory, PyObjectRef, PyStrInterned, Raised, Step, Task,
+    Answer, Cause, FuncArgs, ObjectTask, OutOfMemory, PyObjectRef, Raised, Step, Stop, Task, caught,
 };
 use row_kit::give::new_text;
 
@@ -27,14 +28,13 @@ pub struct Parts {
 pub(crate) fn begin_text(
     world: &mut World,
     container: Container,
-    args: &[PyObjectRef],
-    kw: &[(PyStrInterned, PyObjectRef)],
+    call: FuncArgs<'_>,
 ) -> Result<Step<PartsKept>, OutOfMemory>
-    requires { Holds world.old (AreNodes args.now) }
-    ensures goes { IfOk result (λ step. Starts (repr_of container) args.now kw.now world.old world.new step) }
+    requires { Holds world.old (AreNodes call.args.now) }
+    ensures goes { IfOk result (λ step. Starts (repr_of container) call.entry.args.now call.entry.kw.now world.old world.new step) }
     ensures safe { Leaves of_parts_kept world.old world.new result }
 {
-    match lone(world, container, args, kw) {
+    match lone(world, container, call) {
         Err(raised) => Ok(Step::End(Err(raised))),
         Ok(object) => {
             let texts = Vec::new(world.alloc());
@@ -62,7 +62,7 @@ fn next_text(
 {
     match part_at(&parts.items, parts.next) {
         None => {
-            let ended = end_text(world, container, &parts.texts)?;
+            let ended = caught(end_text(world, container, &parts.texts))?;
             Ok(Step::End(ended))
         }
         Some(part) => {
@@ -119,19 +119,13 @@ fn object_of(answer: Result<Answer, Raised>) -> Result<PyObjectRef, Result<Answe
 }
 
 // Ends with the text of a container whose parts have these.
-fn end_text(
-    world: &mut World,
-    container: Container,
-    texts: &[PyObjectRef],
-) -> Result<Result<Answer, Raised>, OutOfMemory>
+fn end_text(world: &mut World, container: Container, texts: &[PyObjectRef]) -> Result<Answer, Stop>
     requires { Holds world.old (AreNodes texts.now) }
-    ensures ends { IfOk result (λ r. EndsAs (λ t u. text_ends u container texts.now) world.old world.new r) }
+    ensures ends { Ended result (EndsAs (λ t u. text_ends u container texts.now) world.old world.new) }
     ensures safe { LeavesEnd world.old world.new result }
 {
-    match container_text(world, container, texts)? {
-        Err(raised) => Ok(Err(raised)),
-        Ok(text) => new_text(world, text),
-    }
+    let text = container_text(world, container, texts)?;
+    new_text(world, text)
 }
 
 // The text of a container, unless it is too long: then it isn't made to its end.
@@ -139,25 +133,25 @@ fn container_text(
     world: &World,
     container: Container,
     texts: &[PyObjectRef],
-) -> Result<Result<String, Raised>, OutOfMemory>
+) -> Result<String, Stop>
     requires { Holds world.now (AreNodes texts.now) }
-    ensures text { IfOk result (λ r. IfOk r (λ s. (t : Reading) →
-        in_length (container_text container (texts_at (plain t world.now) texts.now)) ≡ Ok (string_bytes s))) }
-    ensures long { IfOk result (λ r. IfErr r (λ x. (t : Reading) →
-        in_length (container_text container (texts_at (plain t world.now) texts.now)) ≡ Err x)) }
+    ensures text { IfOk result (λ s. (t : Reading) →
+        in_length (container_text container (texts_at (plain t world.now) texts.now)) ≡ Ok (string_bytes s)) }
+    ensures long { IfRaised result (λ x. (t : Reading) →
+        in_length (container_text container (texts_at (plain t world.now) texts.now)) ≡ Err x) }
 {
     let mut text = String::from_str(world.alloc(), opening(container))?;
     for i in 0..texts.len() {
         if text.len() > MOST_ITEMS {
-            return Ok(Err(Raised::new(Cause::TooLong)));
+            return Err(Stop::raise(Cause::TooLong));
         }
         push_part(world, &mut text, before(container, i), texts[i])?;
     }
     text.push_str(closing(container, texts.len()))?;
     if is_within_limit(text.len()) {
-        Ok(Ok(text))
+        Ok(text)
     } else {
-        Ok(Err(Raised::new(Cause::TooLong)))
+        Err(Stop::raise(Cause::TooLong))
     }
 }
 

@@ -1,5 +1,6 @@
 //! The texts of class methods and static methods.
 
+ghost use Rattle.py_node.specs.Stops.{IfRaised};
 ghost use Rattle.native_containers.specs.Below.{[], Ok, Err, IfErr, IfOk, Option, string_bytes, PyObjectRef as Object, Said, Ends, datum_at, of_answer, of_step, Leaves, Reading, plain, AllHold, AreNodes, Holds, IsNode, of_option, of_node_ref, in_length, with_own};
 ghost use Rattle.std.specs.Prelude.{◌≡◌, ◌∷◌};
 ghost use Rattle.native_containers.specs.NativeParts.Rows.{Resumes, Starts, of_parts_kept, repr_of_wrapper};
@@ -11,7 +12,8 @@ use class_world::World;
 use class_world::limits::is_within_limit;
 use class_world::takes::one;
 use py_node::{
-    Answer, Cause, ObjectTask, OutOfMemory, Payload, PyObjectRef, PyStrInterned, Raised, Step, Task,
+    Answer, Cause, FuncArgs, ObjectTask, OutOfMemory, Payload, PyObjectRef, Raised, Step, Stop,
+    Task, caught,
 };
 use row_kit::give::new_text;
 
@@ -23,21 +25,16 @@ pub enum Wrapper {
 }
 
 /// Asks for the text of what a class method or a static method wraps.
-pub(crate) fn begin_wrapped(
-    world: &World,
-    wrapper: Wrapper,
-    args: &[PyObjectRef],
-    kw: &[(PyStrInterned, PyObjectRef)],
-) -> Step<PartsKept>
-    requires { Holds world.now (AreNodes args.now) }
-    ensures goes { Starts (repr_of_wrapper wrapper) args.now kw.now world.now world.now result }
+pub(crate) fn begin_wrapped(world: &World, wrapper: Wrapper, call: FuncArgs<'_>) -> Step<PartsKept>
+    requires { Holds world.now (AreNodes call.args.now) }
+    ensures goes { Starts (repr_of_wrapper wrapper) call.entry.args.now call.entry.kw.now world.now world.now result }
     ensures safe { AllHold world.now (of_step of_parts_kept result) }
 {
-    let func = match own_wrapped(world, wrapper, args) {
+    let func = match own_wrapped(world, wrapper, call.args) {
         Err(raised) => return Step::End(Err(raised)),
         Ok(func) => func,
     };
-    match one(args, kw) {
+    match one(call) {
         Err(raised) => Step::End(Err(raised)),
         Ok(_wrapper) => Step::Ask(
             Task::Object(ObjectTask::Repr(func)),
@@ -88,34 +85,30 @@ pub(crate) fn wrapped_given(
         Resumes (PartsKept.Wrapped wrapper) (Ok (Answer.Value text)) world.old world.new step) }
     ensures safe { Leaves of_parts_kept world.old world.new result }
 {
-    match wrapper_text(world, wrapper, text)? {
+    match caught(wrapper_text(world, wrapper, text))? {
         Err(raised) => Ok(Step::End(Err(raised))),
         Ok(text) => {
-            let ended = new_text(world, text)?;
+            let ended = caught(new_text(world, text))?;
             Ok(Step::End(ended))
         }
     }
 }
 
 // The text of a class method or a static method, unless it is too long.
-fn wrapper_text(
-    world: &World,
-    wrapper: Wrapper,
-    wrapped: PyObjectRef,
-) -> Result<Result<String, Raised>, OutOfMemory>
+fn wrapper_text(world: &World, wrapper: Wrapper, wrapped: PyObjectRef) -> Result<String, Stop>
     requires { Holds world.now (IsNode wrapped) }
-    ensures text { IfOk result (λ r. IfOk r (λ s. (t : Reading) →
-        in_length (wrapper_text wrapper (text_at (plain t world.now) wrapped)) ≡ Ok (string_bytes s))) }
-    ensures long { IfOk result (λ r. IfErr r (λ x. (t : Reading) →
-        in_length (wrapper_text wrapper (text_at (plain t world.now) wrapped)) ≡ Err x)) }
+    ensures text { IfOk result (λ s. (t : Reading) →
+        in_length (wrapper_text wrapper (text_at (plain t world.now) wrapped)) ≡ Ok (string_bytes s)) }
+    ensures long { IfRaised result (λ x. (t : Reading) →
+        in_length (wrapper_text wrapper (text_at (plain t world.now) wrapped)) ≡ Err x) }
 {
     let mut text = String::from_str(world.alloc(), wrapper_name(wrapper))?;
     text.push_str(text_at(world, wrapped))?;
     text.push_str(")>")?;
     if is_within_limit(text.len()) {
-        Ok(Ok(text))
+        Ok(text)
     } else {
-        Ok(Err(Raised::new(Cause::TooLong)))
+        Err(Stop::raise(Cause::TooLong))
     }
 }
 

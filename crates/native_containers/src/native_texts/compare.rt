@@ -6,24 +6,23 @@ ghost use Rattle.native_containers.specs.NativeTexts.Say.{compare_text_say, orde
 
 use crate::native_texts::take::{text_and, text_of};
 use class_world::{Fixed, World};
-use py_node::{Answer, Cause, CompareNative, PyObjectRef, PyStrInterned, Raised};
+use py_node::{Answer, Cause, CompareNative, FuncArgs, Raised};
 use std::cmp::Ordering;
 
 /// A comparison of texts, by name. Where the other object holds none, it answers NotImplemented.
 pub fn compare_text(
     world: &World,
     native: CompareNative,
-    args: &[PyObjectRef],
-    kw: &[(PyStrInterned, PyObjectRef)],
+    call: FuncArgs<'_>,
 ) -> Result<Answer, Raised>
-    requires { Holds world.now (AreNodes args.now) }
-    ensures ends { EndsAs (λ t u. compare_text_say u native args.now (bindings t kw.now)) world.now world.now result }
+    requires { Holds world.now (AreNodes call.args.now) }
+    ensures ends { EndsAs (λ t u. compare_text_say u native call.entry.args.now (bindings t call.entry.kw.now)) world.now world.now result }
     ensures holds { AllHold world.now (of_ended result) }
 {
     if native == CompareNative::All {
         return Err(Raised::new(Cause::SelfType));
     }
-    let (text, other) = text_and(world, args, kw)?;
+    let (text, other) = text_and(world, call)?;
     match text_of(world, other) {
         Some(more) => Ok(Answer::Value(world.truth(order_by(native, text.cmp(more))))),
         None => Ok(Answer::Value(world.fixed(Fixed::NotImplemented))),

@@ -6,7 +6,7 @@ ghost use Rattle.native_containers.specs.NativeTexts.Say.{with_own_text, with_lo
 
 use class_world::World;
 use class_world::takes::{one, two};
-use py_node::{Cause, Payload, PyObjectRef, PyStrInterned, Raised};
+use py_node::{Cause, FuncArgs, Payload, PyObjectRef, Raised};
 
 /// The text that an object holds, if it holds one.
 pub fn text_of(world: &World, node: PyObjectRef) -> Option<&str>
@@ -37,37 +37,29 @@ pub fn own_text<'a>(world: &'a World, args: &[PyObjectRef]) -> Result<&'a str, R
 }
 
 /// The only argument and the text that it holds, or why the arguments are refused.
-pub fn lone_text<'a>(
-    world: &'a World,
-    args: &[PyObjectRef],
-    kw: &[(PyStrInterned, PyObjectRef)],
-) -> Result<(PyObjectRef, &'a str), Raised>
-    requires { Holds world.now (AreNodes args.now) }
+pub fn lone_text<'a>(world: &'a World, call: FuncArgs<'_>) -> Result<(PyObjectRef, &'a str), Raised>
+    requires { Holds world.now (AreNodes call.args.now) }
     ensures given { IfOk result (λ p. (t : Reading) (go : Object → Text → Said) →
-        with_lone_text (plain t world.now) args.now (bindings t kw.now) go ≡ go p.0 p.1.now) }
+        with_lone_text (plain t world.now) call.entry.args.now (bindings t call.entry.kw.now) go ≡ go p.0 p.1.now) }
     ensures refused { IfErr result (λ x. (t : Reading) (go : Object → Text → Said) →
-        with_lone_text (plain t world.now) args.now (bindings t kw.now) go ≡ Ends (plain t world.now) (Err x)) }
+        with_lone_text (plain t world.now) call.entry.args.now (bindings t call.entry.kw.now) go ≡ Ends (plain t world.now) (Err x)) }
     ensures node { IfOk result (λ p. Holds world.now (IsNode p.0)) }
 {
-    let text = own_text(world, args)?;
-    let o = one(args, kw)?;
+    let text = own_text(world, call.args)?;
+    let o = one(call)?;
     Ok((o, text))
 }
 
 /// The text that the first argument holds, and the second argument, or why the arguments are refused.
-pub fn text_and<'a>(
-    world: &'a World,
-    args: &[PyObjectRef],
-    kw: &[(PyStrInterned, PyObjectRef)],
-) -> Result<(&'a str, PyObjectRef), Raised>
-    requires { Holds world.now (AreNodes args.now) }
+pub fn text_and<'a>(world: &'a World, call: FuncArgs<'_>) -> Result<(&'a str, PyObjectRef), Raised>
+    requires { Holds world.now (AreNodes call.args.now) }
     ensures given { IfOk result (λ p. (t : Reading) (go : Text → Object → Said) →
-        with_text_and (plain t world.now) args.now (bindings t kw.now) go ≡ go p.0.now p.1) }
+        with_text_and (plain t world.now) call.entry.args.now (bindings t call.entry.kw.now) go ≡ go p.0.now p.1) }
     ensures refused { IfErr result (λ x. (t : Reading) (go : Text → Object → Said) →
-        with_text_and (plain t world.now) args.now (bindings t kw.now) go ≡ Ends (plain t world.now) (Err x)) }
+        with_text_and (plain t world.now) call.entry.args.now (bindings t call.entry.kw.now) go ≡ Ends (plain t world.now) (Err x)) }
     ensures node { IfOk result (λ p. Holds world.now (IsNode p.1)) }
 {
-    let text = own_text(world, args)?;
-    let (_, other) = two(args, kw)?;
+    let text = own_text(world, call.args)?;
+    let (_, other) = two(call)?;
     Ok((text, other))
 }

@@ -1,6 +1,9 @@
 -- How the steps of natives that ask follow from what their parts do.
 use Rattle.proto_attr.proofs.Below.{◌∙◌, List, [], Ok, Err, IfOk, refl, sym, subst, ap, ap₂, Raised as Fault, NativeEntry, NewOf, OutOfMemory, Get, Doc, known_text, PyTypeRef, PyStrInterned, PyObjectRef, Answer, Task, Step, Ask, End, PlainWorld, Said, Asks, Ends, Ended, Told, Answered, ReadObjects, DoGetAttr, DoSuperCheck, ToAttribute, ToDescriptor, ToNative, ref, World, Reading, Reads, bindings, plain, task_of, ended_of, EndsAs, Goes, Steps, fresh, EndsSo, StepsAs, class_method_by, start_asked, super_bound, none, named_end, Value, AfterDoc, Answering, Binding, NativeKept, ClassMethod, Super, Way, Binds, Marked, Wraps, Wrapper, Class, Static, asking_job_say, asking_rest, by_way, class_of_wrapper, none_end, none_said, way_of, way_rest, answering, asking_stands, marking}
 use Rattle.std.proofs.Common.{◌≡◌, ◌∷◌, ◌++◌, Result}
+use Rattle.py_node.specs.Stops.{Ended as Stopped}
+use Rattle.py_node.specs.declared.stop.Stop.{Stop}
+use Rattle.py_node.specs.declared.stop.Stop.TheVariants as stop
 use Rattle.proto_attr.specs.ProtoDescr.Rows as descriptors
 use Rattle.proto_attr.specs.declared.native_calls.NativeKept.TheVariants.{Pass, AfterGet}
 use Rattle.proto_attr.specs.declared.native_calls.NativeKept.TheVariants as kept
@@ -35,12 +38,22 @@ super-resumes c o r old new s h = λ t q.
     let p = asking_stands t (Binding c o) in
     (e.0, subst (λ said. Steps asking_job_say (asking_stands t) t p.task (p.told ++ Answered (ended_of r) ∷ []) said (End s) new) (sym e.1) (refl, refl))
 
+-- a native that goes on where nothing is kept, and ends as it was told
+pub told-resumes : (r : Result Answer Fault) (old new : World) (s : Result Answer Fault) → EndsAs (λ t u. named_end u (ended_of r) []) old new s → Resumes Pass r old new (End s)
+unfolding asking_job_say
+told-resumes r old new s h = λ t q.
+    let e = h t q in
+    let p = asking_stands t Pass in
+    (e.0, subst (λ said. Steps asking_job_say (asking_stands t) t p.task (p.told ++ Answered (ended_of r) ∷ []) said (End s) new) (sym e.1) (refl, refl))
+
 -- what is said is what is said of what it takes
 
-pub taken-descriptor : (said other : Reading → PlainWorld → Said) (old new : World) (r : Result (Result Answer Fault) OutOfMemory) → ((t : Reading) → said t (plain t old) ≡ other t (plain t old)) → IfOk r (λ x. descriptors.EndsAs other old new x) → IfOk r (λ x. EndsAs said old new x)
+pub taken-descriptor : (said other : Reading → PlainWorld → Said) (old new : World) (r : Result Answer Stop) → ((t : Reading) → said t (plain t old) ≡ other t (plain t old)) → Stopped r (descriptors.EndsAs other old new) → Stopped r (EndsAs said old new)
 taken-descriptor said other old new (Ok x) same h = λ t q.
-    let e = descriptor-ends other old new x h t q in (e.0, same t ∙ e.1)
-taken-descriptor said other old new (Err x) same h = tt
+    let e = descriptor-ends other old new (Ok x) h t q in (e.0, same t ∙ e.1)
+taken-descriptor said other old new (Err (stop.Raised x)) same h = λ t q.
+    let e = descriptor-ends other old new (Err x) h t q in (e.0, same t ∙ e.1)
+taken-descriptor said other old new (Err stop.OutOfMemory) same h = tt
 
 pub taken-steps : (said other : Reading → PlainWorld → Said) (old new : World) (r : Result (Step (Unit {0})) OutOfMemory) → ((t : Reading) → said t (plain t old) ≡ other t (plain t old)) → IfOk r (λ x. StepsAs other old new x) → IfOk r (λ x. StepsAs said old new x)
 taken-steps said other old new (Ok x) same h = λ t q.
@@ -51,6 +64,12 @@ taken-steps said other old new (Err x) same h = tt
 pub ends-does : (n : NativeEntry) (said : Reading → PlainWorld → Said) (w : World) (r : Result Answer Fault) → ((t : Reading) → said t (plain t w) ≡ Ends (plain t w) (ended_of r)) → Does n said w w (End r)
 ends-does n said w r same = λ args kw t q.
     (q, subst (λ s. Steps asking_job_say (asking_stands t) t (ToNative n args (kw t)) [] s (End r) w) (sym (same t)) (refl, refl))
+
+-- and one that changes the world before it ends
+pub ended-does : (n : NativeEntry) (said : Reading → PlainWorld → Said) (old new : World) (r : Result Answer Fault) → EndsAs said old new r → Does n said old new (End r)
+ended-does n said old new r h = λ args kw t q.
+    let e = h t q in
+    (e.0, subst (λ s. Steps asking_job_say (asking_stands t) t (ToNative n args (kw t)) [] s (End r) new) (sym e.1) (refl, refl))
 
 -- a class method that asks for `__get__` of what it wraps
 pub class-does : (n : NativeEntry) (said : Reading → PlainWorld → Said) (w : World) (k f : PyObjectRef) (asked : Task) → way_of n ≡ Binds ClassMethod → ((t : Reading) → said t (plain t w) ≡ Asks (plain t w) (ReadObjects (k ∷ f ∷ []) ∷ []) (ToAttribute (DoGetAttr f (known_text Get)))) → ((t : Reading) → Reads t w → task_of t asked ≡ ToAttribute (DoGetAttr f (known_text Get))) → Does n said w w (Ask asked (AfterGet k f))

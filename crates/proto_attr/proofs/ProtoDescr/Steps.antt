@@ -1,8 +1,9 @@
 -- Steps that follow from what was read.
-use Rattle.proto_attr.proofs.Below.{[], refl, sym, subst, Result, Raised as Fault, Answer, DescriptorTask, Step, Ask, End, DescrGet, PySetterValue, DescrSet, slot_at, PyObjectRef, PlainWorld, Answered, Said, Asks, Ends, World, Reading, Reads, plain, descriptor_job, ended_of, setter_value, Steps, descriptor_say, class_method_by, descr_set_by, descriptor_stands, Begins, Starts, Resumes, StepsAs, EndsSo, passed, closed, Pass, AfterGet, Done}
+use Rattle.proto_attr.proofs.Below.{[], refl, sym, subst, Result, Raised as Fault, Answer, DescriptorTask, Step, Ask, End, DescrGet, PySetterValue, DescrSet, slot_at, PyObjectRef, PlainWorld, Answered, Said, Asks, Ends, World, Reading, Reads, plain, descriptor_job, ended_of, named_end, setter_value, Steps, descriptor_say, class_method_by, descr_set_by, descriptor_stands, Begins, Starts, Resumes, StepsAs, EndsSo, passed, closed, Pass, AfterGet, Done}
 use Rattle.std.proofs.Common.{◌≡◌, ◌∷◌, ◌++◌}
 use Rattle.std.specs.Prelude.{Option}
 use Rattle.py_node.specs.declared.task.DescriptorTask.TheVariants as descriptor
+use Rattle.proto_attr.specs.Below.{EndsAs as Told}
 use Rattle.proto_attr.specs.ProtoDescr.Rows.{EndsAs}
 
 -- a row that is said to end ends
@@ -35,6 +36,14 @@ passed-resumes k f r old new (Ask asked kept) h = λ t q.
 passed-resumes k f r old new (End s) h = λ t q.
     let e = h t q in
     let p = descriptor_stands t (AfterGet k f) in
+    (e.0, subst (λ said. Steps descriptor_say (descriptor_stands t) t p.task (p.told ++ Answered (ended_of r) ∷ []) said (End s) new) (sym e.1) (refl, refl))
+
+-- and one that goes on where nothing is kept, and ends as it was told
+pub told-row : (r : Result Answer Fault) (old new : World) (s : Result Answer Fault) → Told (λ t u. named_end u (ended_of r) []) old new s → Resumes Pass r old new (End s)
+unfolding descriptor_say
+told-row r old new s h = λ t q.
+    let e = h t q in
+    let p = descriptor_stands t Pass in
     (e.0, subst (λ said. Steps descriptor_say (descriptor_stands t) t p.task (p.told ++ Answered (ended_of r) ∷ []) said (End s) new) (sym e.1) (refl, refl))
 
 -- a row that sets: it begins with such a step, and then is done

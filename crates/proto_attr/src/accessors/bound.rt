@@ -6,7 +6,7 @@ ghost use Rattle.py_node.specs.declared.built_in.BuiltIn.TheVariants as built_in
 
 use crate::accessors::method::PyMethodDescriptor;
 use class_world::World;
-use py_node::{BuiltIn, BuiltinMethod, OutOfMemory, Payload, PyObjectRef};
+use py_node::{Boxed, BuiltIn, BuiltinMethod, OutOfMemory, Payload, PyObjectRef};
 
 impl PyMethodDescriptor {
     /// A new object of `builtin_method`: this method, bound to an object. Where memory runs out the world stays as it
@@ -35,6 +35,7 @@ impl PyMethodDescriptor {
             class: self.common.typ,
             doc: self.doc,
         };
+        let method = Boxed::new(world.alloc(), method)?;
         world.make_node(home, Payload::BuiltinMethod(method))
     }
 }

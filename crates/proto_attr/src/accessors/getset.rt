@@ -1,10 +1,11 @@
 //! Attributes that natives read and set.
 
-ghost use Rattle.proto_attr.specs.Below.{[], None, Some, Reading, datum, spelled, IsClass, IsName, class_in, home_of, of_payload, AGetSet};
+ghost use Rattle.proto_attr.specs.Below.{[], None, IfOk, Some, Reading, datum, spelled, IsClass, IsName, class_in, home_of, of_payload, AGetSet};
 ghost use Rattle.std.specs.Prelude.{◌≡◌, ◌∷◌};
 ghost use Rattle.py_node.specs.declared.built_in.BuiltIn.TheVariants as built_in;
 
-use py_node::{GetSet, NativeEntry, Payload, PyStrInterned, PyTypeRef};
+use py_node::{Boxed, GetSet, NativeEntry, OutOfMemory, Payload, PyStrInterned, PyTypeRef};
+use std::alloc::Global;
 
 /// The natives that read and set an attribute of the objects of a class, each if it is there.
 #[derive(Clone, Copy)]
@@ -48,19 +49,20 @@ impl PyGetSet {
         }
     }
 
-    /// What an object of `getset_descriptor` holds for it.
-    pub fn payload(self) -> Payload
-        ensures reading { (t : Reading) → datum t result ≡
-            AGetSet self.class.0 (spelled t self.name) self.getter self.setter }
-        ensures names { of_payload result ≡ IsClass self.class.0 ∷ IsName self.name ∷ [] }
-        ensures home { home_of result ≡ built_in.GetSetDescriptor }
-        ensures other { class_in result ≡ None }
+    /// What an object of `getset_descriptor` holds for it, unless memory runs out.
+    pub fn payload(self, alloc: Global) -> Result<Payload, OutOfMemory>
+        ensures reading { IfOk result (λ p. (t : Reading) → datum t p ≡
+            AGetSet self.class.0 (spelled t self.name) self.getter self.setter) }
+        ensures names { IfOk result (λ p. of_payload p ≡ IsClass self.class.0 ∷ IsName self.name ∷ []) }
+        ensures home { IfOk result (λ p. home_of p ≡ built_in.GetSetDescriptor) }
+        ensures other { IfOk result (λ p. class_in p ≡ None) }
     {
-        Payload::GetSet(GetSet {
+        let parts = GetSet {
             class: self.class,
             name: self.name,
             getter: self.getter,
             setter: self.setter,
-        })
+        };
+        Ok(Payload::GetSet(Boxed::new(alloc, parts)?))
     }
 }

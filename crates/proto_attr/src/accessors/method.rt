@@ -8,8 +8,10 @@ ghost use Rattle.proto_attr.specs.NativeDefs.Definitions.{as_method, definition_
 use crate::native_defs::PyMethodDef;
 use class_world::World;
 use py_node::{
-    MethodDescriptor, NativeEntry, OutOfMemory, Payload, PyMethodFlags, PyStrInterned, PyTypeRef,
+    Boxed, MethodDescriptor, NativeEntry, OutOfMemory, Payload, PyMethodFlags, PyStrInterned,
+    PyTypeRef,
 };
+use std::alloc::Global;
 
 /// What descriptors have in common: the class whose attribute one is, its name there, and its qualified name once that
 /// was asked for.
@@ -77,21 +79,22 @@ impl PyMethodDescriptor {
         })
     }
 
-    /// What an object of `method_descriptor` holds for it.
-    pub fn payload(self) -> Payload
-        ensures reading { (t : Reading) → datum t result ≡ AMethodDescriptor self.common.typ.0
-            (spelled t self.common.name) self.entry self.flags.0 (spelled_option t self.doc) }
-        ensures names { of_payload result ≡
-            IsClass self.common.typ.0 ∷ IsName self.common.name ∷ of_option of_name_ref self.doc }
-        ensures home { home_of result ≡ built_in.MethodDescriptor }
-        ensures other { class_in result ≡ None }
+    /// What an object of `method_descriptor` holds for it, unless memory runs out.
+    pub fn payload(self, alloc: Global) -> Result<Payload, OutOfMemory>
+        ensures reading { IfOk result (λ p. (t : Reading) → datum t p ≡ AMethodDescriptor self.common.typ.0
+            (spelled t self.common.name) self.entry self.flags.0 (spelled_option t self.doc)) }
+        ensures names { IfOk result (λ p. of_payload p ≡
+            IsClass self.common.typ.0 ∷ IsName self.common.name ∷ of_option of_name_ref self.doc) }
+        ensures home { IfOk result (λ p. home_of p ≡ built_in.MethodDescriptor) }
+        ensures other { IfOk result (λ p. class_in p ≡ None) }
     {
-        Payload::MethodDescriptor(MethodDescriptor {
+        let method = MethodDescriptor {
             class: self.common.typ,
             name: self.common.name,
             entry: self.entry,
             flags: self.flags.0,
             doc: self.doc,
-        })
+        };
+        Ok(Payload::MethodDescriptor(Boxed::new(alloc, method)?))
     }
 }

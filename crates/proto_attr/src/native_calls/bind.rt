@@ -1,5 +1,6 @@
 //! What functions, natives and descriptors give as they are bound, by name.
 
+ghost use Rattle.py_node.specs.Stops.{Ended};
 ghost use Rattle.proto_attr.specs.Below.{Err, IfErr, IfOk, Option, PlainWorld, Said, Ends, datum_at, PyObjectRef as Object, of_ended, of_step, Leaves, Held, Reading, bindings, plain, EndsAs, LeavesEnd, AllHold, AreNodes, Holds, IsNode, of_option, of_node_ref};
 ghost use Rattle.std.specs.Prelude.{◌≡◌};
 ghost use Rattle.proto_attr.specs.declared.native_calls.way.Way.TheVariants as Way;
@@ -18,74 +19,54 @@ use crate::proto_descr::{
 use class_world::World;
 use class_world::takes::{one, two};
 use py_node::{
-    Answer, Cause, NativeEntry, OutOfMemory, Payload, PyObjectRef, PyStrInterned, Raised, Step,
+    Answer, Cause, FuncArgs, NativeEntry, OutOfMemory, Payload, PyObjectRef, Raised, Step, Stop,
 };
 
 // What is bound, to which object, and for which class.
 pub(crate) type Bound = (PyObjectRef, PyObjectRef, Option<PyObjectRef>);
 
 /// What a function gives for an object, and for a class if there is one.
-pub(crate) fn function_get_by_name(
-    world: &mut World,
-    args: &[PyObjectRef],
-    kw: &[(PyStrInterned, PyObjectRef)],
-) -> Result<Result<Answer, Raised>, OutOfMemory>
-    requires { Holds world.old (AreNodes args.now) }
-    ensures ends { IfOk result (λ r. EndsAs (λ t u. function_get_by_name u args.now (bindings t kw.now))
-        world.old world.new r) }
+pub(crate) fn function_get_by_name(world: &mut World, call: FuncArgs<'_>) -> Result<Answer, Stop>
+    requires { Holds world.old (AreNodes call.args.now) }
+    ensures ends { Ended result (EndsAs (λ t u. function_get_by_name u call.entry.args.now (bindings t call.entry.kw.now))
+        world.old world.new) }
     ensures safe { LeavesEnd world.old world.new result }
 {
-    match bound(world, Kind::Function, args, kw) {
-        Err(raised) => Ok(Err(raised)),
-        Ok((m, o, class)) => bind_function(world, m, Some(o), class),
-    }
+    let (m, o, class) = bound(world, Kind::Function, call)?;
+    bind_function(world, m, Some(o), class)
 }
 
 /// What a native as a method gives for an object, and for a class if there is one.
-pub(crate) fn native_get_by_name(
-    world: &mut World,
-    args: &[PyObjectRef],
-    kw: &[(PyStrInterned, PyObjectRef)],
-) -> Result<Result<Answer, Raised>, OutOfMemory>
-    requires { Holds world.old (AreNodes args.now) }
-    ensures ends { IfOk result (λ r. EndsAs (λ t u. native_get_by_name u args.now (bindings t kw.now))
-        world.old world.new r) }
+pub(crate) fn native_get_by_name(world: &mut World, call: FuncArgs<'_>) -> Result<Answer, Stop>
+    requires { Holds world.old (AreNodes call.args.now) }
+    ensures ends { Ended result (EndsAs (λ t u. native_get_by_name u call.entry.args.now (bindings t call.entry.kw.now))
+        world.old world.new) }
     ensures safe { LeavesEnd world.old world.new result }
 {
-    match bound(world, Kind::Native, args, kw) {
-        Err(raised) => Ok(Err(raised)),
-        Ok((m, o, class)) => bind_native(world, m, Some(o), class),
-    }
+    let (m, o, class) = bound(world, Kind::Native, call)?;
+    bind_native(world, m, Some(o), class)
 }
 
 /// What the descriptor of a getter gives for an object.
-pub(crate) fn getset_get_by_name(
-    world: &World,
-    args: &[PyObjectRef],
-    kw: &[(PyStrInterned, PyObjectRef)],
-) -> Result<Step<()>, OutOfMemory>
-    requires { Holds world.now (AreNodes args.now) }
-    ensures steps { IfOk result (λ step. StepsAs (λ t u. getset_get_by_name u args.now (bindings t kw.now))
+pub(crate) fn getset_get_by_name(world: &World, call: FuncArgs<'_>) -> Result<Step<()>, OutOfMemory>
+    requires { Holds world.now (AreNodes call.args.now) }
+    ensures steps { IfOk result (λ step. StepsAs (λ t u. getset_get_by_name u call.entry.args.now (bindings t call.entry.kw.now))
         world.now world.now step) }
     ensures safe { Leaves nothing_held world.now world.now result }
 {
-    match bound(world, Kind::GetSet, args, kw) {
+    match bound(world, Kind::GetSet, call) {
         Err(raised) => Ok(Step::End(Err(raised))),
         Ok((m, o, _class)) => bind_getset(world, m, Some(o)),
     }
 }
 
 /// What a static method gives.
-pub(crate) fn static_method_by_name(
-    world: &World,
-    args: &[PyObjectRef],
-    kw: &[(PyStrInterned, PyObjectRef)],
-) -> Result<Answer, Raised>
-    requires { Holds world.now (AreNodes args.now) }
-    ensures ends { EndsAs (λ t u. static_method_by_name u args.now (bindings t kw.now)) world.now world.now result }
+pub(crate) fn static_method_by_name(world: &World, call: FuncArgs<'_>) -> Result<Answer, Raised>
+    requires { Holds world.now (AreNodes call.args.now) }
+    ensures ends { EndsAs (λ t u. static_method_by_name u call.entry.args.now (bindings t call.entry.kw.now)) world.now world.now result }
     ensures holds { AllHold world.now (of_ended result) }
 {
-    match bound(world, Kind::StaticMethod, args, kw) {
+    match bound(world, Kind::StaticMethod, call) {
         Err(raised) => Err(raised),
         Ok((m, _object, _class)) => Ok(Answer::Value(static_method_get(world, m))),
     }
@@ -95,16 +76,15 @@ pub(crate) fn static_method_by_name(
 pub(crate) fn class_method_by_name(
     world: &World,
     entry: NativeEntry,
-    args: &[PyObjectRef],
-    kw: &[(PyStrInterned, PyObjectRef)],
+    call: FuncArgs<'_>,
 ) -> Step<NativeKept>
-    requires args { Holds world.now (AreNodes args.now) }
+    requires args { Holds world.now (AreNodes call.args.now) }
     requires way { way_of entry ≡ Way.Binds Kind.ClassMethod }
-    ensures goes { Does entry (λ t u. class_method_by_name u args.now (bindings t kw.now))
+    ensures goes { Does entry (λ t u. class_method_by_name u call.entry.args.now (bindings t call.entry.kw.now))
         world.now world.now result }
     ensures safe { AllHold world.now (of_step of_native_kept result) }
 {
-    match bound(world, Kind::ClassMethod, args, kw) {
+    match bound(world, Kind::ClassMethod, call) {
         Err(raised) => Step::End(Err(raised)),
         Ok((m, o, class)) => match wrapped(world, m) {
             None => Step::End(Ok(Answer::Value(m))),
@@ -147,29 +127,27 @@ pub(crate) fn resume_class_method(
 }
 
 // What is bound, to which object, and for which class, or why the arguments are refused.
-pub(crate) fn bound(
-    world: &World,
-    kind: Kind,
-    args: &[PyObjectRef],
-    kw: &[(PyStrInterned, PyObjectRef)],
-) -> Result<Bound, Raised>
-    requires { Holds world.now (AreNodes args.now) }
+pub(crate) fn bound(world: &World, kind: Kind, call: FuncArgs<'_>) -> Result<Bound, Raised>
+    requires { Holds world.now (AreNodes call.args.now) }
     ensures given { IfOk result (λ p. (t : Reading) (go : Object → Object → Option Object → Said) →
-        get_by_name (plain t world.now) (is_of_kind kind) args.now (bindings t kw.now) go ≡ go p.0 p.1 p.2) }
+        get_by_name (plain t world.now) (is_of_kind kind) call.entry.args.now (bindings t call.entry.kw.now) go ≡ go p.0 p.1 p.2) }
     ensures refused { IfErr result (λ x. (t : Reading) (go : Object → Object → Option Object → Said) →
-        get_by_name (plain t world.now) (is_of_kind kind) args.now (bindings t kw.now) go ≡
+        get_by_name (plain t world.now) (is_of_kind kind) call.entry.args.now (bindings t call.entry.kw.now) go ≡
         Ends (plain t world.now) (Err x)) }
     ensures bound { IfOk result (λ p. Holds world.now (IsNode p.0)) }
     ensures object { IfOk result (λ p. Holds world.now (IsNode p.1)) }
     ensures class { IfOk result (λ p. AllHold world.now (of_option of_node_ref p.2)) }
 {
-    match args {
+    match call.args {
         [] => Err(Raised::new(Cause::ArgCount)),
         [m, rest @ ..] => {
             if !is_of_kind(world, kind, *m) {
                 return Err(Raised::new(Cause::SelfType));
             }
-            let (o, class) = object_and_class(rest, kw)?;
+            let (o, class) = object_and_class(FuncArgs {
+                args: rest,
+                kw: call.kw,
+            })?;
             Ok((*m, o, class))
         }
     }
@@ -177,24 +155,23 @@ pub(crate) fn bound(
 
 // The object that is bound to, and the class if there is one, or why the arguments are refused.
 pub(crate) fn object_and_class(
-    args: &[PyObjectRef],
-    kw: &[(PyStrInterned, PyObjectRef)],
+    call: FuncArgs<'_>,
 ) -> Result<(PyObjectRef, Option<PyObjectRef>), Raised>
     ensures given { IfOk result (λ p. (t : Reading) (w : PlainWorld) (go : Object → Option Object → Said) →
-        with_get w args.now (bindings t kw.now) go ≡ go p.0 p.1) }
+        with_get w call.entry.args.now (bindings t call.entry.kw.now) go ≡ go p.0 p.1) }
     ensures refused { IfErr result (λ x. (t : Reading) (w : PlainWorld) (go : Object → Option Object → Said) →
-        with_get w args.now (bindings t kw.now) go ≡ Ends w (Err x)) }
-    ensures object { IfOk result (λ p. (w : Held) → Holds w (AreNodes args.now) → Holds w (IsNode p.0)) }
-    ensures class { IfOk result (λ p. (w : Held) → Holds w (AreNodes args.now) →
+        with_get w call.entry.args.now (bindings t call.entry.kw.now) go ≡ Ends w (Err x)) }
+    ensures object { IfOk result (λ p. (w : Held) → Holds w (AreNodes call.entry.args.now) → Holds w (IsNode p.0)) }
+    ensures class { IfOk result (λ p. (w : Held) → Holds w (AreNodes call.entry.args.now) →
         AllHold w (of_option of_node_ref p.1)) }
 {
-    if args.len() == 2 {
-        match two(args, kw) {
+    if call.args.len() == 2 {
+        match two(call) {
             Err(raised) => Err(raised),
             Ok((o, class)) => Ok((o, Some(class))),
         }
     } else {
-        match one(args, kw) {
+        match one(call) {
             Err(raised) => Err(raised),
             Ok(o) => Ok((o, None)),
         }

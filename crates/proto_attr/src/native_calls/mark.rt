@@ -8,26 +8,21 @@ ghost use Rattle.proto_attr.specs.NativeCalls.Parts.{mark_by_name, marked_in};
 use crate::native_calls::bind::object_and_class;
 use class_world::{Fixed, World};
 use py_node::{
-    Answer, AttributeTask, BuiltIn, Cause, Known, Payload, PyObjectRef, PySetterValue,
-    PyStrInterned, Raised, Step, Task,
+    Answer, AttributeTask, BuiltIn, Cause, FuncArgs, Known, Payload, PyObjectRef, PySetterValue,
+    Raised, Step, Task,
 };
 
 /// What an object of a class wraps, or the getter of a property, is marked as abstract. The mark can't be taken out.
-pub(crate) fn mark_by_name(
-    world: &World,
-    class: BuiltIn,
-    args: &[PyObjectRef],
-    kw: &[(PyStrInterned, PyObjectRef)],
-) -> Step<()>
-    requires { Holds world.now (AreNodes args.now) }
-    ensures steps { StepsAs (λ t u. mark_by_name u class args.now (bindings t kw.now)) world.now world.now result }
+pub(crate) fn mark_by_name(world: &World, class: BuiltIn, call: FuncArgs<'_>) -> Step<()>
+    requires { Holds world.now (AreNodes call.args.now) }
+    ensures steps { StepsAs (λ t u. mark_by_name u class call.entry.args.now (bindings t call.entry.kw.now)) world.now world.now result }
     ensures safe { AllHold world.now (of_step nothing_held result) }
 {
-    let (_object, func) = match own_marked(world, class, args) {
+    let (_object, func) = match own_marked(world, class, call.args) {
         Err(raised) => return Step::End(Err(raised)),
         Ok(own) => own,
     };
-    match object_and_class(args, kw) {
+    match object_and_class(call) {
         Err(raised) => Step::End(Err(raised)),
         Ok((_object, None)) => Step::raise(Cause::CannotDelete),
         Ok((_object, Some(value))) => match func {

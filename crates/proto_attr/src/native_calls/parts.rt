@@ -8,20 +8,16 @@ use crate::native_calls::bind::bound;
 use crate::native_calls::way::Kind;
 use crate::proto_descr::{member_get, property_get};
 use class_world::World;
-use py_node::{OutOfMemory, PyObjectRef, PyStrInterned, Step};
+use py_node::{FuncArgs, OutOfMemory, Step};
 
 /// What a member gives of an object.
-pub(crate) fn member_get_by_name(
-    world: &World,
-    args: &[PyObjectRef],
-    kw: &[(PyStrInterned, PyObjectRef)],
-) -> Result<Step<()>, OutOfMemory>
-    requires { Holds world.now (AreNodes args.now) }
-    ensures steps { IfOk result (λ step. StepsAs (λ t u. member_get_by_name u args.now (bindings t kw.now))
+pub(crate) fn member_get_by_name(world: &World, call: FuncArgs<'_>) -> Result<Step<()>, OutOfMemory>
+    requires { Holds world.now (AreNodes call.args.now) }
+    ensures steps { IfOk result (λ step. StepsAs (λ t u. member_get_by_name u call.entry.args.now (bindings t call.entry.kw.now))
         world.now world.now step) }
     ensures safe { Leaves nothing_held world.now world.now result }
 {
-    match bound(world, Kind::Member, args, kw) {
+    match bound(world, Kind::Member, call) {
         Err(raised) => Ok(Step::End(Err(raised))),
         Ok((m, o, _class)) => member_get(world, m, Some(o)),
     }
@@ -30,15 +26,14 @@ pub(crate) fn member_get_by_name(
 /// What a property gives of an object.
 pub(crate) fn property_get_by_name(
     world: &World,
-    args: &[PyObjectRef],
-    kw: &[(PyStrInterned, PyObjectRef)],
+    call: FuncArgs<'_>,
 ) -> Result<Step<()>, OutOfMemory>
-    requires { Holds world.now (AreNodes args.now) }
-    ensures steps { IfOk result (λ step. StepsAs (λ t u. property_get_by_name u args.now (bindings t kw.now))
+    requires { Holds world.now (AreNodes call.args.now) }
+    ensures steps { IfOk result (λ step. StepsAs (λ t u. property_get_by_name u call.entry.args.now (bindings t call.entry.kw.now))
         world.now world.now step) }
     ensures safe { Leaves nothing_held world.now world.now result }
 {
-    match bound(world, Kind::Property, args, kw) {
+    match bound(world, Kind::Property, call) {
         Err(raised) => Ok(Step::End(Err(raised))),
         Ok((m, o, _class)) => property_get(world, m, Some(o)),
     }

@@ -10,27 +10,29 @@ use crate::native_calls::way::{Kind, Setting};
 use crate::proto_descr::{getset_set, member_set, property_set};
 use class_world::World;
 use class_world::takes::{one, two};
-use py_node::{Cause, OutOfMemory, PyObjectRef, PySetterValue, PyStrInterned, Step};
+use py_node::{Cause, FuncArgs, OutOfMemory, PyObjectRef, PySetterValue, Step};
 
 /// What an object stands for is set in another one.
 pub(crate) fn set_by_name(
     world: &mut World,
     setting: Setting,
-    args: &[PyObjectRef],
-    kw: &[(PyStrInterned, PyObjectRef)],
+    call: FuncArgs<'_>,
 ) -> Result<Step<()>, OutOfMemory>
-    requires { Holds world.old (AreNodes args.now) }
-    ensures steps { IfOk result (λ step. StepsAs (λ t u. set_so u setting args.now (bindings t kw.now))
+    requires { Holds world.old (AreNodes call.args.now) }
+    ensures steps { IfOk result (λ step. StepsAs (λ t u. set_so u setting call.entry.args.now (bindings t call.entry.kw.now))
         world.old world.new step) }
     ensures safe { Leaves nothing_held world.old world.new result }
 {
-    match args {
+    match call.args {
         [] => Ok(Step::raise(Cause::ArgCount)),
         [m, rest @ ..] => {
             if !is_of_kind(world, kind_of(setting), *m) {
                 return Ok(Step::raise(Cause::SelfType));
             }
-            match two(rest, kw) {
+            match two(FuncArgs {
+                args: rest,
+                kw: call.kw,
+            }) {
                 Err(raised) => Ok(Step::End(Err(raised))),
                 Ok((o, value)) => set_as(world, setting, *m, o, PySetterValue::Assign(value)),
             }
@@ -42,21 +44,23 @@ pub(crate) fn set_by_name(
 pub(crate) fn delete_by_name(
     world: &mut World,
     setting: Setting,
-    args: &[PyObjectRef],
-    kw: &[(PyStrInterned, PyObjectRef)],
+    call: FuncArgs<'_>,
 ) -> Result<Step<()>, OutOfMemory>
-    requires { Holds world.old (AreNodes args.now) }
-    ensures steps { IfOk result (λ step. StepsAs (λ t u. delete_so u setting args.now (bindings t kw.now))
+    requires { Holds world.old (AreNodes call.args.now) }
+    ensures steps { IfOk result (λ step. StepsAs (λ t u. delete_so u setting call.entry.args.now (bindings t call.entry.kw.now))
         world.old world.new step) }
     ensures safe { Leaves nothing_held world.old world.new result }
 {
-    match args {
+    match call.args {
         [] => Ok(Step::raise(Cause::ArgCount)),
         [m, rest @ ..] => {
             if !is_of_kind(world, kind_of(setting), *m) {
                 return Ok(Step::raise(Cause::SelfType));
             }
-            match one(rest, kw) {
+            match one(FuncArgs {
+                args: rest,
+                kw: call.kw,
+            }) {
                 Err(raised) => Ok(Step::End(Err(raised))),
                 Ok(o) => set_as(world, setting, *m, o, PySetterValue::Delete),
             }

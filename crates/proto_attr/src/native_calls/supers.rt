@@ -15,23 +15,22 @@ use class_world::World;
 use class_world::args::copy_args;
 use class_world::takes::one;
 use py_node::{
-    Answer, Cause, DescriptorTask, NativeEntry, OutOfMemory, PyObjectRef, PyStrInterned, PyTypeRef,
-    Raised, Step, Task,
+    Answer, Cause, DescriptorTask, FuncArgs, NativeEntry, OutOfMemory, PyObjectRef, PyTypeRef,
+    Raised, Step, Task, caught,
 };
 
 /// A `super` that is bound to nothing is told where to start for an object.
 pub(crate) fn super_get_by_name(
     world: &World,
     entry: NativeEntry,
-    args: &[PyObjectRef],
-    kw: &[(PyStrInterned, PyObjectRef)],
+    call: FuncArgs<'_>,
 ) -> Step<NativeKept>
-    requires args { Holds world.now (AreNodes args.now) }
+    requires args { Holds world.now (AreNodes call.args.now) }
     requires way { way_of entry ≡ Way.Binds Kind.Super }
-    ensures goes { Does entry (λ t u. super_get_by_name u args.now (bindings t kw.now)) world.now world.now result }
+    ensures goes { Does entry (λ t u. super_get_by_name u call.entry.args.now (bindings t call.entry.kw.now)) world.now world.now result }
     ensures safe { AllHold world.now (of_step of_native_kept result) }
 {
-    match bound(world, Kind::Super, args, kw) {
+    match bound(world, Kind::Super, call) {
         Err(raised) => Step::End(Err(raised)),
         Ok((m, o, _class)) => match unbound_super(world, m, Some(o)) {
             None => Step::End(Ok(Answer::Value(m))),
@@ -56,30 +55,32 @@ pub(crate) fn resume_super(
         world.old world.new step) }
     ensures safe { Leaves of_native_kept world.old world.new result }
 {
-    let ended = bind_super(world, class, object, answer)?;
+    let ended = caught(bind_super(world, class, object, answer))?;
     Ok(Step::End(ended))
 }
 
 /// An attribute of a `super` by its name.
 pub(crate) fn super_attribute_by_name(
     world: &mut World,
-    args: &[PyObjectRef],
-    kw: &[(PyStrInterned, PyObjectRef)],
+    call: FuncArgs<'_>,
 ) -> Result<Step<()>, OutOfMemory>
-    requires { Holds world.old (AreNodes args.now) }
-    ensures steps { IfOk result (λ step. StepsAs (λ t u. super_attribute_by_name u args.now (bindings t kw.now))
+    requires { Holds world.old (AreNodes call.args.now) }
+    ensures steps { IfOk result (λ step. StepsAs (λ t u. super_attribute_by_name u call.entry.args.now (bindings t call.entry.kw.now))
         world.old world.new step) }
     ensures safe { Leaves nothing_held world.old world.new result }
 {
-    match args {
+    match call.args {
         [] => Ok(Step::raise(Cause::ArgCount)),
         [s, rest @ ..] => {
             if !is_of_kind(world, Kind::Super, *s) {
                 return Ok(Step::raise(Cause::SelfType));
             }
-            match one(rest, kw) {
+            match one(FuncArgs {
+                args: rest,
+                kw: call.kw,
+            }) {
                 Err(raised) => Ok(Step::End(Err(raised))),
-                Ok(name) => match world.name_in(name)? {
+                Ok(name) => match caught(world.name_in(name))? {
                     Err(raised) => Ok(Step::End(Err(raised))),
                     Ok(name) => {
                         let task = DescriptorTask::SuperGet(*s, name);
@@ -92,23 +93,19 @@ pub(crate) fn super_attribute_by_name(
 }
 
 /// A `super` is initialised with any arguments, but no keywords.
-pub(crate) fn super_init_by_name(
-    world: &World,
-    args: &[PyObjectRef],
-    kw: &[(PyStrInterned, PyObjectRef)],
-) -> Result<Step<()>, OutOfMemory>
-    requires { Holds world.now (AreNodes args.now) }
-    ensures steps { IfOk result (λ step. StepsAs (λ t u. super_init_by_name u args.now (bindings t kw.now))
+pub(crate) fn super_init_by_name(world: &World, call: FuncArgs<'_>) -> Result<Step<()>, OutOfMemory>
+    requires { Holds world.now (AreNodes call.args.now) }
+    ensures steps { IfOk result (λ step. StepsAs (λ t u. super_init_by_name u call.entry.args.now (bindings t call.entry.kw.now))
         world.now world.now step) }
     ensures safe { Leaves nothing_held world.now world.now result }
 {
-    match args {
+    match call.args {
         [] => Ok(Step::raise(Cause::ArgCount)),
         [s, rest @ ..] => {
             if !is_of_kind(world, Kind::Super, *s) {
                 return Ok(Step::raise(Cause::SelfType));
             }
-            if !kw.is_empty() {
+            if !call.kw.is_empty() {
                 return Ok(Step::raise(Cause::UnexpectedKeyword));
             }
             let rest = copy_args(world.alloc(), rest)?;

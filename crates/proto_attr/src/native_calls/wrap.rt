@@ -11,8 +11,8 @@ use crate::native_calls::way::Wrapper;
 use class_world::World;
 use class_world::takes::two;
 use py_node::{
-    Answer, AttributeTask, BuiltIn, Cause, Known, NativeEntry, OutOfMemory, Payload, PyObjectRef,
-    PySetterValue, PyStrInterned, PyTypeRef, Raised, Step, Task,
+    Answer, AttributeTask, BuiltIn, Cause, FuncArgs, Known, NativeEntry, OutOfMemory, Payload,
+    PyObjectRef, PySetterValue, PyTypeRef, Raised, Step, Task,
 };
 
 // The built-in class of these.
@@ -52,21 +52,20 @@ pub(crate) fn ask_for_doc(
     world: &World,
     entry: NativeEntry,
     wrapper: Wrapper,
-    args: &[PyObjectRef],
-    kw: &[(PyStrInterned, PyObjectRef)],
+    call: FuncArgs<'_>,
 ) -> Step<NativeKept>
-    requires args { Holds world.now (AreNodes args.now) }
+    requires args { Holds world.now (AreNodes call.args.now) }
     requires way { way_of entry ≡ Way.Wraps wrapper }
     ensures goes { Does entry
-        (λ t u. wrapper_new u (class_of_wrapper wrapper) args.now (bindings t kw.now))
+        (λ t u. wrapper_new u (class_of_wrapper wrapper) call.entry.args.now (bindings t call.entry.kw.now))
         world.now world.now result }
     ensures safe { AllHold world.now (of_step of_native_kept result) }
 {
-    let class = match heir(world, class_of_wrapper(wrapper), args) {
+    let class = match heir(world, class_of_wrapper(wrapper), call.args) {
         Err(raised) => return Step::End(Err(raised)),
         Ok(class) => class,
     };
-    match two(args, kw) {
+    match two(call) {
         Err(raised) => Step::End(Err(raised)),
         Ok((_object, func)) => {
             let task = AttributeTask::GetAttr(func, world.known(Known::Doc));

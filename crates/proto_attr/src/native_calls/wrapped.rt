@@ -9,7 +9,7 @@ use crate::native_calls::way::Wrapper;
 use class_world::World;
 use class_world::takes::one;
 use py_node::{
-    AttributeTask, Cause, Detail, Known, Payload, PyObjectRef, PyStrInterned, Raised, Step, Task,
+    AttributeTask, Cause, Detail, FuncArgs, Known, Payload, PyObjectRef, Raised, Step, Task,
 };
 
 /// What a class method or a static method wraps is asked for a part.
@@ -17,19 +17,18 @@ pub(crate) fn part_of_wrapped(
     world: &World,
     wrapper: Wrapper,
     detail: Detail,
-    args: &[PyObjectRef],
-    kw: &[(PyStrInterned, PyObjectRef)],
+    call: FuncArgs<'_>,
 ) -> Step<()>
-    requires { Holds world.now (AreNodes args.now) }
-    ensures steps { StepsAs (λ t u. part_of_wrapped u wrapper detail args.now (bindings t kw.now))
+    requires { Holds world.now (AreNodes call.args.now) }
+    ensures steps { StepsAs (λ t u. part_of_wrapped u wrapper detail call.entry.args.now (bindings t call.entry.kw.now))
         world.now world.now result }
     ensures safe { AllHold world.now (of_step nothing_held result) }
 {
-    let (_object, func) = match own_wrapped(world, wrapper, args) {
+    let (_object, func) = match own_wrapped(world, wrapper, call.args) {
         Err(raised) => return Step::End(Err(raised)),
         Ok(own) => own,
     };
-    match one(args, kw) {
+    match one(call) {
         Err(raised) => Step::End(Err(raised)),
         Ok(_object) => {
             let name = world.known(asked_name(detail));

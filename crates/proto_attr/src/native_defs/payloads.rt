@@ -9,7 +9,7 @@ use crate::native_defs::def::PyMethodDef;
 use bitflags::Flags;
 use class_world::World;
 use py_node::{
-    BuiltinMethod, MethodDescriptor, NativeFunction, OutOfMemory, Payload, PyMethodFlags,
+    Boxed, BuiltinMethod, MethodDescriptor, NativeFunction, OutOfMemory, Payload, PyMethodFlags,
     PyObjectRef, PyStrInterned, PyTypeRef,
 };
 
@@ -56,12 +56,13 @@ impl PyMethodDef {
         ensures grows { Grows world.old world.new }
     {
         let (name, doc) = self.names(world)?;
-        Ok(Payload::NativeFunction(NativeFunction {
+        let function = NativeFunction {
             name,
             entry: self.func,
             target,
             doc,
-        }))
+        };
+        Ok(Payload::NativeFunction(Boxed::new(world.alloc(), function)?))
     }
 
     /// As a function that isn't bound.
@@ -110,13 +111,14 @@ impl PyMethodDef {
         ensures grows { Grows world.old world.new }
     {
         let (name, doc) = self.names(world)?;
-        Ok(Payload::MethodDescriptor(MethodDescriptor {
+        let method = MethodDescriptor {
             class,
             name,
             entry: self.func,
             flags: self.flags.0,
             doc,
-        }))
+        };
+        Ok(Payload::MethodDescriptor(Boxed::new(world.alloc(), method)?))
     }
 
     /// As a method of a class that is bound to an object.
@@ -138,13 +140,14 @@ impl PyMethodDef {
         ensures grows { Grows world.old world.new }
     {
         let (name, doc) = self.names(world)?;
-        Ok(Payload::BuiltinMethod(BuiltinMethod {
+        let method = BuiltinMethod {
             name,
             entry: self.func,
             target: obj,
             class,
             doc,
-        }))
+        };
+        Ok(Payload::BuiltinMethod(Boxed::new(world.alloc(), method)?))
     }
 
     /// Whether it is a method of objects or of classes, and no function.

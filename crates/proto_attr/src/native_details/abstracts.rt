@@ -14,27 +14,22 @@ use crate::native_details::DetailKept;
 use class_world::World;
 use class_world::takes::one;
 use py_node::{
-    Answer, AttributeTask, Cause, Detail, Known, OperatorTask, Payload, PyNumberBinaryOp,
-    PyObjectRef, PyProperty, PyStrInterned, Raised, Step, Task,
+    Answer, AttributeTask, Cause, Detail, FuncArgs, Known, OperatorTask, Payload, PyNumberBinaryOp,
+    PyObjectRef, PyProperty, Raised, Step, Task,
 };
 
 /// The getter is asked first, if there is one.
-pub(crate) fn begin_abstract(
-    world: &World,
-    detail: Detail,
-    args: &[PyObjectRef],
-    kw: &[(PyStrInterned, PyObjectRef)],
-) -> Step<DetailKept>
-    requires { Holds world.now (AreNodes args.now) }
-    ensures goes { Does (entry.GetterOf built_in.Property detail) args.now (λ t. bindings t kw.now)
-        (λ t u. property_abstract u args.now (bindings t kw.now) []) world.now world.now result }
+pub(crate) fn begin_abstract(world: &World, detail: Detail, call: FuncArgs<'_>) -> Step<DetailKept>
+    requires { Holds world.now (AreNodes call.args.now) }
+    ensures goes { Does (entry.GetterOf built_in.Property detail) call.entry.args.now (λ t. bindings t call.entry.kw.now)
+        (λ t u. property_abstract u call.entry.args.now (bindings t call.entry.kw.now) []) world.now world.now result }
     ensures safe { AllHold world.now (of_step of_detail_kept result) }
 {
-    let (property, parts) = match own_property(world, args) {
+    let (property, parts) = match own_property(world, call.args) {
         Err(raised) => return Step::End(Err(raised)),
         Ok(own) => own,
     };
-    if let Err(raised) = one(args, kw) {
+    if let Err(raised) = one(call) {
         return Step::End(Err(raised));
     }
     match parts.fget {

@@ -1,5 +1,6 @@
 //! The qualified name of a member: it is kept, or its class is asked for its own.
 
+ghost use Rattle.py_node.specs.Stops.{Ended, IfRaised};
 ghost use Rattle.proto_attr.specs.Below.{ℕ, codes, Option, Ok, Err, IfErr, IfOk, string_bytes, PyObjectRef as Object, of_ended, Leaves, Reading, Reads, bindings, plain, spelled, spelled_option, EndsAs, LeavesEnd, AllHold, AreNodes, Holds, IsName, IsNode, of_member, Said, Ends, Text, with_own, datum_at, in_length};
 ghost use Rattle.std.specs.Prelude.{◌≡◌, ◌++◌};
 ghost use Rattle.py_node.specs.declared.built_in.BuiltIn.TheVariants as built_in;
@@ -12,8 +13,8 @@ use class_world::limits::is_within_limit;
 use class_world::takes::one;
 use class_world::{Fixed, World};
 use py_node::{
-    Answer, AttributeTask, Cause, Detail, Kind, Known, MemberDescriptor, OutOfMemory, Payload,
-    PyObjectRef, PyStrInterned, Raised, Step, Task,
+    Answer, AttributeTask, Cause, Detail, FuncArgs, Kind, Known, MemberDescriptor, OutOfMemory,
+    Payload, PyObjectRef, PyStrInterned, Raised, Step, Stop, Task, caught,
 };
 use row_kit::class_names::limited_text;
 use row_kit::give::new_text;
@@ -22,25 +23,24 @@ use row_kit::give::new_text;
 pub(crate) fn begin_name(
     world: &mut World,
     detail: Detail,
-    args: &[PyObjectRef],
-    kw: &[(PyStrInterned, PyObjectRef)],
+    call: FuncArgs<'_>,
 ) -> Result<Step<DetailKept>, OutOfMemory>
-    requires { Holds world.old (AreNodes args.now) }
-    ensures goes { IfOk result (λ step. Does (entry.GetterOf built_in.MemberDescriptor detail) args.now
-        (λ t. bindings t kw.now) (λ t u. member_name u args.now (bindings t kw.now)) world.old world.new step) }
+    requires { Holds world.old (AreNodes call.args.now) }
+    ensures goes { IfOk result (λ step. Does (entry.GetterOf built_in.MemberDescriptor detail) call.entry.args.now
+        (λ t. bindings t call.entry.kw.now) (λ t u. member_name u call.entry.args.now (bindings t call.entry.kw.now)) world.old world.new step) }
     ensures safe { Leaves of_detail_kept world.old world.new result }
 {
-    let (object, member) = match own_member(world, args) {
+    let (object, member) = match own_member(world, call.args) {
         Err(raised) => return Ok(Step::End(Err(raised))),
         Ok(own) => own,
     };
-    if let Err(raised) = one(args, kw) {
+    if let Err(raised) = one(call) {
         return Ok(Step::End(Err(raised)));
     }
     match member.qualname {
         Some(name) => {
             let text = world.spelling(name)?;
-            let ended = limited_text(world, text)?;
+            let ended = caught(limited_text(world, text))?;
             Ok(Step::End(ended))
         }
         None => {
@@ -64,7 +64,7 @@ pub(crate) fn name_given(
 {
     match answer {
         Ok(Answer::Value(qualname)) => {
-            let ended = named_by(world, member, qualname)?;
+            let ended = caught(named_by(world, member, qualname))?;
             Ok(Step::End(ended))
         }
         Ok(other) => Ok(Step::End(Ok(other))),
@@ -79,55 +79,43 @@ pub(crate) fn name_given(
 }
 
 // The name is kept, and told as a new text.
-fn named_by(
-    world: &mut World,
-    object: PyObjectRef,
-    qualname: PyObjectRef,
-) -> Result<Result<Answer, Raised>, OutOfMemory>
+fn named_by(world: &mut World, object: PyObjectRef, qualname: PyObjectRef) -> Result<Answer, Stop>
     requires object { Holds world.old (IsNode object) }
     requires qualname { Holds world.old (IsNode qualname) }
-    ensures ends { IfOk result (λ r. EndsAs (λ t u. named_by u object (datum_at u object) qualname)
-        world.old world.new r) }
+    ensures ends { Ended result (EndsAs (λ t u. named_by u object (datum_at u object) qualname)
+        world.old world.new) }
     ensures safe { LeavesEnd world.old world.new result }
 {
     let member = match world.payload(object) {
         Payload::Member(member) => **member,
-        _ => return Ok(Ok(Answer::Value(world.fixed(Fixed::None)))),
+        _ => return Ok(Answer::Value(world.fixed(Fixed::None))),
     };
-    match dotted(world, qualname, member.name)? {
-        Err(raised) => Ok(Err(raised)),
-        Ok(text) => {
-            let name = world.intern(text.as_str())?;
-            let named = MemberDescriptor {
-                qualname: Some(name),
-                ..member
-            };
-            let boxed = Box::new(world.alloc(), named)?;
-            world.set_payload(object, Payload::Member(boxed));
-            new_text(world, text)
-        }
-    }
+    let text = dotted(world, qualname, member.name)?;
+    let name = world.intern(text.as_str())?;
+    let named = MemberDescriptor {
+        qualname: Some(name),
+        ..member
+    };
+    let boxed = Box::new(world.alloc(), named)?;
+    world.set_payload(object, Payload::Member(boxed));
+    new_text(world, text)
 }
 
 // The text that an object is, and a name in it. It must be a text, and not too long.
-fn dotted(
-    world: &World,
-    qualname: PyObjectRef,
-    name: PyStrInterned,
-) -> Result<Result<String, Raised>, OutOfMemory>
+fn dotted(world: &World, qualname: PyObjectRef, name: PyStrInterned) -> Result<String, Stop>
     requires qualname { Holds world.now (IsNode qualname) }
     requires name { Holds world.now (IsName name) }
-    ensures text { IfOk result (λ r. IfOk r (λ s. (t : Reading) → Reads t world.now →
-        dotted (spelled t name) (datum_at (plain t world.now) qualname) ≡ Ok (string_bytes s))) }
-    ensures refused { IfOk result (λ r. IfErr r (λ x. (t : Reading) → Reads t world.now →
-        dotted (spelled t name) (datum_at (plain t world.now) qualname) ≡ Err x)) }
+    ensures text { IfOk result (λ s. (t : Reading) → Reads t world.now →
+        dotted (spelled t name) (datum_at (plain t world.now) qualname) ≡ Ok (string_bytes s)) }
+    ensures refused { IfRaised result (λ x. (t : Reading) → Reads t world.now →
+        dotted (spelled t name) (datum_at (plain t world.now) qualname) ≡ Err x) }
 {
     match world.payload(qualname) {
         Payload::Text(qualname) => {
             let text = dotted_text(world, qualname, name)?;
-            Ok(in_length(text))
+            Ok(in_length(text)?)
         }
-        _ => Ok(Err(Raised::new(Cause::QualnameType))),
+        _ => Err(Stop::raise(Cause::QualnameType)),
     }
 }
 

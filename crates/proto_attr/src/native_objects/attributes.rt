@@ -1,5 +1,6 @@
 //! What is listed of the attributes of classes.
 
+ghost use Rattle.py_node.specs.Stops.{Ended};
 ghost use Rattle.proto_attr.specs.Below.{[], Some, IfOk, OnOk, Annotations, the_dict, ADict, with_node, next_node, with_own_attr, Reading, Reads, plain, spelled, EndsAs, LeavesEnd, Grows, IsClass, IsName, IsNode, Holds};
 ghost use Rattle.std.specs.Prelude.{◌≡◌};
 ghost use Rattle.proto_attr.specs.NativeObjects.Attributes.{annotations, class_dict};
@@ -7,18 +8,15 @@ ghost use Rattle.proto_attr.specs.NativeObjects.Attributes.{annotations, class_d
 use class_world::World;
 use py_node::{
     Answer, BuiltIn, Cause, Known, OutOfMemory, Payload, PyDict, PyObjectRef, PyStrInterned,
-    PyTypeRef, Raised,
+    PyTypeRef, Stop,
 };
 use row_kit::class_attributes::key_all;
 use row_kit::give::new_sized;
 
 /// The own attributes of a class, as a new dict.
-pub(crate) fn class_dict(
-    world: &mut World,
-    class: PyTypeRef,
-) -> Result<Result<Answer, Raised>, OutOfMemory>
+pub(crate) fn class_dict(world: &mut World, class: PyTypeRef) -> Result<Answer, Stop>
     requires { Holds world.old (IsClass class.0) }
-    ensures ends { IfOk result (λ r. EndsAs (λ t u. class_dict u class.0) world.old world.new r) }
+    ensures ends { Ended result (EndsAs (λ t u. class_dict u class.0) world.old world.new) }
     ensures safe { LeavesEnd world.old world.new result }
 {
     let attrs = world.attributes(class).try_clone(world.alloc())?;
@@ -28,23 +26,20 @@ pub(crate) fn class_dict(
 }
 
 /// The annotations of a class that a script made: its own, or else a new dict, which becomes an own attribute.
-pub(crate) fn annotations(
-    world: &mut World,
-    class: PyTypeRef,
-) -> Result<Result<Answer, Raised>, OutOfMemory>
+pub(crate) fn annotations(world: &mut World, class: PyTypeRef) -> Result<Answer, Stop>
     requires { Holds world.old (IsClass class.0) }
-    ensures ends { IfOk result (λ r. EndsAs (λ t u. annotations u class.0) world.old world.new r) }
+    ensures ends { Ended result (EndsAs (λ t u. annotations u class.0) world.old world.new) }
     ensures safe { LeavesEnd world.old world.new result }
 {
     if !world.class_is_heap(class) {
-        return Ok(Err(Raised::new(Cause::NoAttribute)));
+        return Err(Stop::raise(Cause::NoAttribute));
     }
     let name = world.known(Known::Annotations);
     match world.own_attr(class, name) {
-        Some(value) => Ok(Ok(Answer::Value(value))),
+        Some(value) => Ok(Answer::Value(value)),
         None => {
             let dict = new_annotations(world, class, name)?;
-            Ok(Ok(Answer::Value(dict)))
+            Ok(Answer::Value(dict))
         }
     }
 }

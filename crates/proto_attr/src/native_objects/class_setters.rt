@@ -1,5 +1,6 @@
 //! The names, the module and the annotations that are set of a class.
 
+ghost use Rattle.py_node.specs.Stops.{Ended};
 ghost use Rattle.proto_attr.specs.Below.{Err, Some, IfErr, IfOk, IfSome, is_some, true, PyObjectRef as Object, known_text, is_heap_at, SetOwn, Said, Ends, datum_at, Reading, plain, EndsAs, LeavesEnd, IsClass, IsNode, Holds, has_null, text_of};
 ghost use Rattle.std.specs.Prelude.{◌≡◌};
 ghost use Rattle.py_node.specs.declared.entry.Property.TheVariants as property;
@@ -8,7 +9,7 @@ ghost use Rattle.proto_attr.specs.NativeObjects.Setters.{changes, class_written,
 
 use class_table::ClassFault;
 use class_world::{Fixed, World};
-use py_node::{Answer, Cause, Known, OutOfMemory, Payload, PyObjectRef, PyTypeRef, Raised};
+use py_node::{Answer, Cause, Known, OutOfMemory, Payload, PyObjectRef, PyTypeRef, Raised, Stop};
 use row_kit::class_names::text_of;
 use row_kit::questions::has_null;
 
@@ -44,38 +45,32 @@ pub(crate) fn set_name(
     world: &mut World,
     class: PyTypeRef,
     given: Option<PyObjectRef>,
-) -> Result<Result<Answer, Raised>, OutOfMemory>
+) -> Result<Answer, Stop>
     requires class { Holds world.old (IsClass class.0) }
     requires given { IfSome given (λ r. Holds world.old (IsNode r)) }
-    ensures ends { IfOk result (λ r. EndsAs (λ t u. class_written u property.Name class.0 given)
-        world.old world.new r) }
+    ensures ends { Ended result (EndsAs (λ t u. class_written u property.Name class.0 given)
+        world.old world.new) }
     ensures safe { LeavesEnd world.old world.new result }
 {
-    match heap_value(world, class, given) {
-        Err(raised) => Ok(Err(raised)),
-        Ok(value) => match text_of(world, value)? {
-            None => Ok(Err(Raised::new(Cause::NameType))),
-            Some(name) => renamed(world, class, name.as_str()),
-        },
+    let value = heap_value(world, class, given)?;
+    match text_of(world, value)? {
+        None => Err(Stop::raise(Cause::NameType)),
+        Some(name) => renamed(world, class, name.as_str()),
     }
 }
 
 // A class that a script made gets another name, which has no null character.
-fn renamed(
-    world: &mut World,
-    class: PyTypeRef,
-    name: &str,
-) -> Result<Result<Answer, Raised>, OutOfMemory>
+fn renamed(world: &mut World, class: PyTypeRef, name: &str) -> Result<Answer, Stop>
     requires class { Holds world.old (IsClass class.0) }
     requires heap { is_heap_at (class_numbered world.old.classes class.0) ≡ true }
-    ensures ends { IfOk result (λ r. EndsAs (λ t u. renamed u class.0 name.now) world.old world.new r) }
+    ensures ends { Ended result (EndsAs (λ t u. renamed u class.0 name.now) world.old world.new) }
     ensures safe { LeavesEnd world.old world.new result }
 {
     if has_null(name) {
-        return Ok(Err(Raised::new(Cause::NullInName)));
+        return Err(Stop::raise(Cause::NullInName));
     }
     world.set_name(class, name)?;
-    Ok(Ok(Answer::Value(world.fixed(Fixed::None))))
+    Ok(Answer::Value(world.fixed(Fixed::None)))
 }
 
 /// The name of a class within its module, which is kept as it is given.
@@ -83,22 +78,18 @@ pub(crate) fn set_qualname(
     world: &mut World,
     class: PyTypeRef,
     given: Option<PyObjectRef>,
-) -> Result<Result<Answer, Raised>, OutOfMemory>
+) -> Result<Answer, Stop>
     requires class { Holds world.old (IsClass class.0) }
     requires given { IfSome given (λ r. Holds world.old (IsNode r)) }
-    ensures ends { IfOk result (λ r. EndsAs (λ t u. class_written u property.Qualname class.0 given)
-        world.old world.new r) }
+    ensures ends { Ended result (EndsAs (λ t u. class_written u property.Qualname class.0 given)
+        world.old world.new) }
     ensures safe { LeavesEnd world.old world.new result }
 {
-    match heap_value(world, class, given) {
-        Err(raised) => Ok(Err(raised)),
-        Ok(value) => {
-            if is_text(world, value) {
-                set_own(world, class, Known::Qualname, value)
-            } else {
-                Ok(Err(Raised::new(Cause::NameType)))
-            }
-        }
+    let value = heap_value(world, class, given)?;
+    if is_text(world, value) {
+        set_own(world, class, Known::Qualname, value)
+    } else {
+        Err(Stop::raise(Cause::NameType))
     }
 }
 
@@ -118,17 +109,15 @@ pub(crate) fn set_module(
     world: &mut World,
     class: PyTypeRef,
     given: Option<PyObjectRef>,
-) -> Result<Result<Answer, Raised>, OutOfMemory>
+) -> Result<Answer, Stop>
     requires class { Holds world.old (IsClass class.0) }
     requires given { IfSome given (λ r. Holds world.old (IsNode r)) }
-    ensures ends { IfOk result (λ r. EndsAs (λ t u. class_written u property.Module class.0 given)
-        world.old world.new r) }
+    ensures ends { Ended result (EndsAs (λ t u. class_written u property.Module class.0 given)
+        world.old world.new) }
     ensures safe { LeavesEnd world.old world.new result }
 {
-    match heap_value(world, class, given) {
-        Err(raised) => Ok(Err(raised)),
-        Ok(value) => set_own(world, class, Known::Module, value),
-    }
+    let value = heap_value(world, class, given)?;
+    set_own(world, class, Known::Module, value)
 }
 
 /// The annotations of a class, which are set or taken out.
@@ -136,11 +125,11 @@ pub(crate) fn set_annotations(
     world: &mut World,
     class: PyTypeRef,
     given: Option<PyObjectRef>,
-) -> Result<Result<Answer, Raised>, OutOfMemory>
+) -> Result<Answer, Stop>
     requires class { Holds world.old (IsClass class.0) }
     requires given { IfSome given (λ r. Holds world.old (IsNode r)) }
-    ensures ends { IfOk result (λ r. EndsAs (λ t u. class_written u property.Annotations class.0 given)
-        world.old world.new r) }
+    ensures ends { Ended result (EndsAs (λ t u. class_written u property.Annotations class.0 given)
+        world.old world.new) }
     ensures safe { LeavesEnd world.old world.new result }
 {
     match given {
@@ -155,39 +144,35 @@ fn set_own(
     class: PyTypeRef,
     name: Known,
     value: PyObjectRef,
-) -> Result<Result<Answer, Raised>, OutOfMemory>
+) -> Result<Answer, Stop>
     requires class { Holds world.old (IsClass class.0) }
     requires value { Holds world.old (IsNode value) }
-    ensures ends { IfOk result (λ r. EndsAs (λ t u.
-        on_heap u class.0 (changes u (SetOwn class.0 (known_text name) (Some value)))) world.old world.new r) }
+    ensures ends { Ended result (EndsAs (λ t u.
+        on_heap u class.0 (changes u (SetOwn class.0 (known_text name) (Some value)))) world.old world.new) }
     ensures safe { LeavesEnd world.old world.new result }
 {
     let name = world.known(name);
     match world.set_attr(class, name, value) {
-        Ok(()) => Ok(Ok(Answer::Value(world.fixed(Fixed::None)))),
-        Err(ClassFault::Refused(cause)) => Ok(Err(Raised::new(cause))),
+        Ok(()) => Ok(Answer::Value(world.fixed(Fixed::None))),
+        Err(ClassFault::Refused(cause)) => Err(Stop::raise(cause)),
         Err(ClassFault::RefusedAt(_, _)) => unreachable!(),
-        Err(ClassFault::OutOfMemory) => Err(OutOfMemory),
+        Err(ClassFault::OutOfMemory) => Err(Stop::OutOfMemory),
     }
 }
 
 // An own attribute of a class that a script made is taken out, where it is there.
-fn take_own(
-    world: &mut World,
-    class: PyTypeRef,
-    name: Known,
-) -> Result<Result<Answer, Raised>, OutOfMemory>
+fn take_own(world: &mut World, class: PyTypeRef, name: Known) -> Result<Answer, Stop>
     requires { Holds world.old (IsClass class.0) }
-    ensures ends { IfOk result (λ r. EndsAs (λ t u. on_heap u class.0 (take_own u class.0 (known_text name)))
-        world.old world.new r) }
+    ensures ends { Ended result (EndsAs (λ t u. on_heap u class.0 (take_own u class.0 (known_text name)))
+        world.old world.new) }
     ensures safe { LeavesEnd world.old world.new result }
 {
     let name = world.known(name);
     match world.del_attr_direct(class, name) {
-        Ok(true) => Ok(Ok(Answer::Value(world.fixed(Fixed::None)))),
-        Ok(false) => Ok(Err(Raised::new(Cause::NoAttribute))),
-        Err(ClassFault::Refused(cause)) => Ok(Err(Raised::new(cause))),
+        Ok(true) => Ok(Answer::Value(world.fixed(Fixed::None))),
+        Ok(false) => Err(Stop::raise(Cause::NoAttribute)),
+        Err(ClassFault::Refused(cause)) => Err(Stop::raise(cause)),
         Err(ClassFault::RefusedAt(_, _)) => unreachable!(),
-        Err(ClassFault::OutOfMemory) => Err(OutOfMemory),
+        Err(ClassFault::OutOfMemory) => Err(Stop::OutOfMemory),
     }
 }

@@ -1,6 +1,7 @@
 //! The natives of descriptors and of `super`.
 
-ghost use Rattle.proto_attr.specs.Below.{Err, IfErr, IfOk, option_map, string_bytes, PlainWorld, Said, Ends, of_ended, Reading, Reads, bindings, plain, spelled, EndsAs, LeavesEnd, AllHold, AreNodes, Grows, IsClass, IsName, Holds, of_option, of_start};
+ghost use Rattle.py_node.specs.Stops.{Ended};
+ghost use Rattle.proto_attr.specs.Below.{Err, IfOk, option_map, string_bytes, of_ended, Reading, Reads, bindings, plain, spelled, EndsAs, LeavesEnd, AllHold, AreNodes, Grows, IsClass, IsName, Holds, of_option, of_start};
 ghost use Rattle.std.specs.Prelude.{◌≡◌, ◌∷◌};
 ghost use Rattle.proto_attr.specs.NativeObjects.Descriptors.{callable_say, descriptor_native_say, super_say, wrapper_say, method_repr, member_repr, method_text, member_text, bound_text, super_repr, super_text, static_init};
 
@@ -8,8 +9,8 @@ use crate::native_objects::take::{own_member, own_method, own_static, own_super}
 use class_world::takes::{one, two};
 use class_world::{Fixed, World};
 use py_node::{
-    Answer, CallableNative, Cause, DescriptorNative, OutOfMemory, Payload, PyObjectRef,
-    PyStrInterned, PySuper, PyTypeRef, Raised, SuperNative, WrapperNative,
+    Answer, CallableNative, Cause, DescriptorNative, FuncArgs, OutOfMemory, Payload, PyStrInterned,
+    PySuper, PyTypeRef, Raised, Stop, SuperNative, WrapperNative,
 };
 use row_kit::class_names::limited_text;
 use std::alloc::Global;
@@ -18,17 +19,16 @@ use std::alloc::Global;
 pub fn callable_native(
     world: &mut World,
     native: CallableNative,
-    args: &[PyObjectRef],
-    kw: &[(PyStrInterned, PyObjectRef)],
-) -> Result<Result<Answer, Raised>, OutOfMemory>
-    requires { Holds world.old (AreNodes args.now) }
-    ensures ends { IfOk result (λ r. EndsAs (λ t u. callable_say u native args.now (bindings t kw.now))
-        world.old world.new r) }
+    call: FuncArgs<'_>,
+) -> Result<Answer, Stop>
+    requires { Holds world.old (AreNodes call.args.now) }
+    ensures ends { Ended result (EndsAs (λ t u. callable_say u native call.entry.args.now (bindings t call.entry.kw.now))
+        world.old world.new) }
     ensures safe { LeavesEnd world.old world.new result }
 {
     match native {
-        CallableNative::ReprMethodDescriptor => method_repr(world, args, kw),
-        _ => Ok(Err(Raised::new(Cause::SelfType))),
+        CallableNative::ReprMethodDescriptor => method_repr(world, call),
+        _ => Err(Stop::raise(Cause::SelfType)),
     }
 }
 
@@ -36,17 +36,16 @@ pub fn callable_native(
 pub fn descriptor_native(
     world: &mut World,
     native: DescriptorNative,
-    args: &[PyObjectRef],
-    kw: &[(PyStrInterned, PyObjectRef)],
-) -> Result<Result<Answer, Raised>, OutOfMemory>
-    requires { Holds world.old (AreNodes args.now) }
-    ensures ends { IfOk result (λ r. EndsAs (λ t u. descriptor_native_say u native args.now (bindings t kw.now))
-        world.old world.new r) }
+    call: FuncArgs<'_>,
+) -> Result<Answer, Stop>
+    requires { Holds world.old (AreNodes call.args.now) }
+    ensures ends { Ended result (EndsAs (λ t u. descriptor_native_say u native call.entry.args.now (bindings t call.entry.kw.now))
+        world.old world.new) }
     ensures safe { LeavesEnd world.old world.new result }
 {
     match native {
-        DescriptorNative::MemberRepr => member_repr(world, args, kw),
-        _ => Ok(Err(Raised::new(Cause::SelfType))),
+        DescriptorNative::MemberRepr => member_repr(world, call),
+        _ => Err(Stop::raise(Cause::SelfType)),
     }
 }
 
@@ -54,17 +53,16 @@ pub fn descriptor_native(
 pub fn super_native(
     world: &mut World,
     native: SuperNative,
-    args: &[PyObjectRef],
-    kw: &[(PyStrInterned, PyObjectRef)],
-) -> Result<Result<Answer, Raised>, OutOfMemory>
-    requires { Holds world.old (AreNodes args.now) }
-    ensures ends { IfOk result (λ r. EndsAs (λ t u. super_say u native args.now (bindings t kw.now))
-        world.old world.new r) }
+    call: FuncArgs<'_>,
+) -> Result<Answer, Stop>
+    requires { Holds world.old (AreNodes call.args.now) }
+    ensures ends { Ended result (EndsAs (λ t u. super_say u native call.entry.args.now (bindings t call.entry.kw.now))
+        world.old world.new) }
     ensures safe { LeavesEnd world.old world.new result }
 {
     match native {
-        SuperNative::Repr => super_repr(world, args, kw),
-        _ => Ok(Err(Raised::new(Cause::SelfType))),
+        SuperNative::Repr => super_repr(world, call),
+        _ => Err(Stop::raise(Cause::SelfType)),
     }
 }
 
@@ -72,58 +70,39 @@ pub fn super_native(
 pub fn wrapper_native(
     world: &mut World,
     native: WrapperNative,
-    args: &[PyObjectRef],
-    kw: &[(PyStrInterned, PyObjectRef)],
-) -> Result<Result<Answer, Raised>, OutOfMemory>
-    requires { Holds world.old (AreNodes args.now) }
-    ensures ends { IfOk result (λ r. EndsAs (λ t u. wrapper_say u native args.now (bindings t kw.now))
-        world.old world.new r) }
+    call: FuncArgs<'_>,
+) -> Result<Answer, Stop>
+    requires { Holds world.old (AreNodes call.args.now) }
+    ensures ends { Ended result (EndsAs (λ t u. wrapper_say u native call.entry.args.now (bindings t call.entry.kw.now))
+        world.old world.new) }
     ensures safe { LeavesEnd world.old world.new result }
 {
     match native {
-        WrapperNative::StaticInit => Ok(static_init(world, args, kw)),
-        _ => Ok(Err(Raised::new(Cause::SelfType))),
+        WrapperNative::StaticInit => Ok(static_init(world, call)?),
+        _ => Err(Stop::raise(Cause::SelfType)),
     }
 }
 
 // The text of a native as a method: its name and its class.
-fn method_repr(
-    world: &mut World,
-    args: &[PyObjectRef],
-    kw: &[(PyStrInterned, PyObjectRef)],
-) -> Result<Result<Answer, Raised>, OutOfMemory>
-    requires { Holds world.old (AreNodes args.now) }
-    ensures ends { IfOk result (λ r. EndsAs (λ t u. method_repr u args.now (bindings t kw.now)) world.old world.new r) }
+fn method_repr(world: &mut World, call: FuncArgs<'_>) -> Result<Answer, Stop>
+    requires { Holds world.old (AreNodes call.args.now) }
+    ensures ends { Ended result (EndsAs (λ t u. method_repr u call.entry.args.now (bindings t call.entry.kw.now)) world.old world.new) }
     ensures safe { LeavesEnd world.old world.new result }
 {
-    let (_object, (class, name)) = match own_method(world, args) {
-        Err(raised) => return Ok(Err(raised)),
-        Ok(method) => method,
-    };
-    if let Err(raised) = one(args, kw) {
-        return Ok(Err(raised));
-    }
+    let (_object, (class, name)) = own_method(world, call.args)?;
+    one(call)?;
     let text = method_text(world, class, name)?;
     limited_text(world, text)
 }
 
 // The text of a member: its name and its class.
-fn member_repr(
-    world: &mut World,
-    args: &[PyObjectRef],
-    kw: &[(PyStrInterned, PyObjectRef)],
-) -> Result<Result<Answer, Raised>, OutOfMemory>
-    requires { Holds world.old (AreNodes args.now) }
-    ensures ends { IfOk result (λ r. EndsAs (λ t u. member_repr u args.now (bindings t kw.now)) world.old world.new r) }
+fn member_repr(world: &mut World, call: FuncArgs<'_>) -> Result<Answer, Stop>
+    requires { Holds world.old (AreNodes call.args.now) }
+    ensures ends { Ended result (EndsAs (λ t u. member_repr u call.entry.args.now (bindings t call.entry.kw.now)) world.old world.new) }
     ensures safe { LeavesEnd world.old world.new result }
 {
-    let (_object, (class, name)) = match own_member(world, args) {
-        Err(raised) => return Ok(Err(raised)),
-        Ok(member) => member,
-    };
-    if let Err(raised) = one(args, kw) {
-        return Ok(Err(raised));
-    }
+    let (_object, (class, name)) = own_member(world, call.args)?;
+    one(call)?;
     let text = member_text(world, class, name)?;
     limited_text(world, text)
 }
@@ -155,22 +134,13 @@ fn member_text(world: &World, class: PyTypeRef, name: PyStrInterned) -> Result<S
 }
 
 // The text of a `super`: the class past which it looks, and the class where it starts.
-fn super_repr(
-    world: &mut World,
-    args: &[PyObjectRef],
-    kw: &[(PyStrInterned, PyObjectRef)],
-) -> Result<Result<Answer, Raised>, OutOfMemory>
-    requires { Holds world.old (AreNodes args.now) }
-    ensures ends { IfOk result (λ r. EndsAs (λ t u. super_repr u args.now (bindings t kw.now)) world.old world.new r) }
+fn super_repr(world: &mut World, call: FuncArgs<'_>) -> Result<Answer, Stop>
+    requires { Holds world.old (AreNodes call.args.now) }
+    ensures ends { Ended result (EndsAs (λ t u. super_repr u call.entry.args.now (bindings t call.entry.kw.now)) world.old world.new) }
     ensures safe { LeavesEnd world.old world.new result }
 {
-    let (_object, own) = match own_super(world, args) {
-        Err(raised) => return Ok(Err(raised)),
-        Ok(own) => own,
-    };
-    if let Err(raised) = one(args, kw) {
-        return Ok(Err(raised));
-    }
+    let (_object, own) = own_super(world, call.args)?;
+    one(call)?;
     let text = super_text(world, own)?;
     limited_text(world, text)
 }
@@ -201,18 +171,14 @@ fn bound_text(alloc: Global, past: &str, start: Option<&str>) -> Result<String, 
 }
 
 // A static method wraps the callable that it is given.
-fn static_init(
-    world: &mut World,
-    args: &[PyObjectRef],
-    kw: &[(PyStrInterned, PyObjectRef)],
-) -> Result<Answer, Raised>
-    requires { Holds world.old (AreNodes args.now) }
-    ensures ends { EndsAs (λ t u. static_init u args.now (bindings t kw.now)) world.old world.new result }
+fn static_init(world: &mut World, call: FuncArgs<'_>) -> Result<Answer, Raised>
+    requires { Holds world.old (AreNodes call.args.now) }
+    ensures ends { EndsAs (λ t u. static_init u call.entry.args.now (bindings t call.entry.kw.now)) world.old world.new result }
     ensures grows { Grows world.old world.new }
     ensures holds { AllHold world.new (of_ended result) }
 {
-    let (object, _old) = own_static(world, args)?;
-    let (_, callable) = two(args, kw)?;
+    let (object, _old) = own_static(world, call.args)?;
+    let (_, callable) = two(call)?;
     world.set_payload(object, Payload::StaticMethod(callable));
     Ok(Answer::Value(world.fixed(Fixed::None)))
 }

@@ -1,15 +1,16 @@
 //! What is read through getters of the objects of the built-in classes other than `object` and `type`.
 
+ghost use Rattle.py_node.specs.Stops.{Ended};
 ghost use Rattle.proto_attr.specs.Below.{[], Some, Err, IfErr, IfOk, option_map, string_bytes, Said, Ends, PyObjectRef as Object, Held, Reading, Reads, bindings, datum, plain, spelled, spelled_option, EndsAs, LeavesEnd, AllHold, AreNodes, Holds, IsClass, IsName, of_name_ref, of_node_ref, of_option, of_optional, of_payload, of_property, of_start, with_own, signature_of};
 ghost use Rattle.std.specs.Prelude.{◌≡◌, ◌∷◌};
-ghost use Rattle.proto_attr.specs.NativeObjects.Details.{Part as Read, accessor_part, bounds_part, builtin_method_part, callable_part, class_method_part, doc_part, dotted_text, function_part, getset_part, getter_of_say, in_class_part, kept_part, looked_part, member_part, method_descriptor_part, method_part, name_part, native_function_part, native_part, part_given, part_of, property_part, signature_given, signature_part, slice_part, static_method_part, super_part, whole_text};
+ghost use Rattle.proto_attr.specs.NativeObjects.Details.{Part as Read, accessor_part, bounds_part, builtin_method_part, callable_part, class_method_part, doc_part, dotted_text, function_part, getset_part, getter_of_say, in_class_part, kept_part, looked_part, member_part, method_descriptor_part, method_part, native_function_part, native_part, part_given, part_of, property_part, signature_given, signature_part, slice_part, static_method_part, super_part, whole_text};
 ghost use Rattle.proto_attr.specs.NativeObjects.DetailParts.{of_part, read_part};
 
 use class_world::takes::one;
 use class_world::{Fixed, World};
 use py_node::{
-    Answer, BuiltIn, Cause, Detail, OutOfMemory, Payload, PyObjectRef, PyProperty, PySlice,
-    PyStrInterned, PySuper, PyTypeRef, Raised,
+    Answer, BuiltIn, Cause, Detail, FuncArgs, OutOfMemory, Payload, PyObjectRef, PyProperty,
+    PySlice, PyStrInterned, PySuper, PyTypeRef, Raised, Stop,
 };
 use row_kit::class_names::limited_text;
 use row_kit::signatures::get_text_signature_from_internal_doc;
@@ -35,21 +36,15 @@ pub fn getter_of_native(
     world: &mut World,
     class: BuiltIn,
     detail: Detail,
-    args: &[PyObjectRef],
-    kw: &[(PyStrInterned, PyObjectRef)],
-) -> Result<Result<Answer, Raised>, OutOfMemory>
-    requires { Holds world.old (AreNodes args.now) }
-    ensures ends { IfOk result (λ r. EndsAs (λ t u. getter_of_say u class detail args.now (bindings t kw.now))
-        world.old world.new r) }
+    call: FuncArgs<'_>,
+) -> Result<Answer, Stop>
+    requires { Holds world.old (AreNodes call.args.now) }
+    ensures ends { Ended result (EndsAs (λ t u. getter_of_say u class detail call.entry.args.now (bindings t call.entry.kw.now))
+        world.old world.new) }
     ensures safe { LeavesEnd world.old world.new result }
 {
-    let (_object, part) = match own_part(world, class, detail, args) {
-        Err(raised) => return Ok(Err(raised)),
-        Ok(own) => own,
-    };
-    if let Err(raised) = one(args, kw) {
-        return Ok(Err(raised));
-    }
+    let (_object, part) = own_part(world, class, detail, call.args)?;
+    one(call)?;
     give_part(world, part)
 }
 
@@ -137,7 +132,10 @@ fn native_function_part(detail: Detail, payload: &Payload) -> Option<Part>
     ensures holds { (w : Held) → AllHold w (of_payload payload.now) → AllHold w (of_option of_part result) }
 {
     match payload {
-        Payload::NativeFunction(f) => native_part(detail, f.name, f.target),
+        Payload::NativeFunction(f) => {
+            let f = f.get();
+            native_part(detail, f.name, f.target)
+        }
         _ => None,
     }
 }
@@ -149,7 +147,10 @@ fn builtin_method_part(detail: Detail, payload: &Payload) -> Option<Part>
     ensures holds { (w : Held) → AllHold w (of_payload payload.now) → AllHold w (of_option of_part result) }
 {
     match payload {
-        Payload::BuiltinMethod(m) => native_part(detail, m.name, Some(m.target)),
+        Payload::BuiltinMethod(m) => {
+            let m = m.get();
+            native_part(detail, m.name, Some(m.target))
+        }
         _ => None,
     }
 }
@@ -174,11 +175,14 @@ fn method_descriptor_part(detail: Detail, payload: &Payload) -> Option<Part>
     ensures holds { (w : Held) → AllHold w (of_payload payload.now) → AllHold w (of_option of_part result) }
 {
     match payload {
-        Payload::MethodDescriptor(m) => match detail {
-            Detail::Doc => Some(doc_part(m.doc)),
-            Detail::TextSignature => Some(signature_part(m.name, m.doc)),
-            detail => in_class_part(detail, m.class, m.name),
-        },
+        Payload::MethodDescriptor(m) => {
+            let m = m.get();
+            match detail {
+                Detail::Doc => Some(doc_part(m.doc)),
+                Detail::TextSignature => Some(signature_part(m.name, m.doc)),
+                detail => in_class_part(detail, m.class, m.name),
+            }
+        }
         _ => None,
     }
 }
@@ -190,10 +194,13 @@ fn getset_part(detail: Detail, payload: &Payload) -> Option<Part>
     ensures holds { (w : Held) → AllHold w (of_payload payload.now) → AllHold w (of_option of_part result) }
 {
     match payload {
-        Payload::GetSet(g) => match detail {
-            Detail::Qualname => Some(Part::Whole(g.class, g.name)),
-            _ => in_class_part(detail, g.class, g.name),
-        },
+        Payload::GetSet(g) => {
+            let g = g.get();
+            match detail {
+                Detail::Qualname => Some(Part::Whole(g.class, g.name)),
+                _ => in_class_part(detail, g.class, g.name),
+            }
+        }
         _ => None,
     }
 }
@@ -331,7 +338,7 @@ fn super_part(detail: Detail, payload: &Payload) -> Option<Part>
     ensures holds { (w : Held) → AllHold w (of_payload payload.now) → AllHold w (of_option of_part result) }
 {
     match payload {
-        Payload::Super(s) => looked_part(detail, *s),
+        Payload::Super(s) => looked_part(detail, *s.get()),
         _ => None,
     }
 }
@@ -360,7 +367,7 @@ fn slice_part(detail: Detail, payload: &Payload) -> Option<Part>
     ensures holds { (w : Held) → AllHold w (of_payload payload.now) → AllHold w (of_option of_part result) }
 {
     match payload {
-        Payload::Slice(s) => bounds_part(detail, *s),
+        Payload::Slice(s) => bounds_part(detail, *s.get()),
         _ => None,
     }
 }
@@ -380,9 +387,9 @@ fn bounds_part(detail: Detail, bounds: PySlice) -> Option<Part>
 }
 
 // Ends with a part: a new text, an object, or None.
-fn give_part(world: &mut World, part: Part) -> Result<Result<Answer, Raised>, OutOfMemory>
+fn give_part(world: &mut World, part: Part) -> Result<Answer, Stop>
     requires { AllHold world.old (of_part part) }
-    ensures ends { IfOk result (λ r. EndsAs (λ t u. part_given u (read_part t part)) world.old world.new r) }
+    ensures ends { Ended result (EndsAs (λ t u. part_given u (read_part t part)) world.old world.new) }
     ensures safe { LeavesEnd world.old world.new result }
 {
     match part {
@@ -398,11 +405,11 @@ fn give_part(world: &mut World, part: Part) -> Result<Result<Answer, Raised>, Ou
             let text = whole(world, class, name)?;
             limited_text(world, text)
         }
-        Part::Class(class) => Ok(Ok(Answer::Value(world.class_node(class)))),
-        Part::Object(Some(object)) => Ok(Ok(Answer::Value(object))),
-        Part::Object(None) => Ok(Ok(Answer::Value(world.fixed(Fixed::None)))),
+        Part::Class(class) => Ok(Answer::Value(world.class_node(class))),
+        Part::Object(Some(object)) => Ok(Answer::Value(object)),
+        Part::Object(None) => Ok(Answer::Value(world.fixed(Fixed::None))),
         Part::Signature(name, doc) => give_signature(world, name, doc),
-        Part::Later => Ok(Err(Raised::new(Cause::SelfType))),
+        Part::Later => Err(Stop::raise(Cause::SelfType)),
     }
 }
 
@@ -411,16 +418,16 @@ fn give_signature(
     world: &mut World,
     name: PyStrInterned,
     doc: PyStrInterned,
-) -> Result<Result<Answer, Raised>, OutOfMemory>
+) -> Result<Answer, Stop>
     requires name { Holds world.old (IsName name) }
     requires doc { Holds world.old (IsName doc) }
-    ensures ends { IfOk result (λ r. EndsAs (λ t u. signature_given u (signature_of (spelled t name) (spelled t doc)))
-        world.old world.new r) }
+    ensures ends { Ended result (EndsAs (λ t u. signature_given u (signature_of (spelled t name) (spelled t doc)))
+        world.old world.new) }
     ensures safe { LeavesEnd world.old world.new result }
 {
     match signature(world, name, doc)? {
         Some(text) => limited_text(world, text),
-        None => Ok(Ok(Answer::Value(world.fixed(Fixed::None)))),
+        None => Ok(Answer::Value(world.fixed(Fixed::None))),
     }
 }
 

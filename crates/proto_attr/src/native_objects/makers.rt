@@ -1,12 +1,13 @@
 //! What makes the objects of built-in classes.
 
-ghost use Rattle.proto_attr.specs.Below.{Ok, Err, IfOk, raised, EndsAs, LeavesEnd, AreNodes, Holds};
+ghost use Rattle.py_node.specs.Stops.{Ended};
+ghost use Rattle.proto_attr.specs.Below.{Err, raised, EndsAs, LeavesEnd, AreNodes, Holds};
 ghost use Rattle.std.specs.Prelude.{◌≡◌};
 ghost use Rattle.proto_attr.specs.NativeObjects.Makers.{maker_say};
 
 use class_world::World;
 use py_node::{
-    Answer, BuiltIn, Cause, OutOfMemory, Payload, PyDict, PyObjectRef, PyProperty, PySuper, Raised,
+    Answer, Boxed, BuiltIn, Cause, Payload, PyDict, PyObjectRef, PyProperty, PySuper, Stop,
 };
 use row_kit::take_classes::heir;
 
@@ -15,9 +16,9 @@ pub fn maker_native(
     world: &mut World,
     built_in: BuiltIn,
     args: &[PyObjectRef],
-) -> Result<Result<Answer, Raised>, OutOfMemory>
+) -> Result<Answer, Stop>
     requires { Holds world.old (AreNodes args.now) }
-    ensures ends { IfOk result (λ r. EndsAs (λ t u. maker_say u built_in args.now) world.old world.new r) }
+    ensures ends { Ended result (EndsAs (λ t u. maker_say u built_in args.now) world.old world.new) }
     ensures safe { LeavesEnd world.old world.new result }
 {
     match built_in {
@@ -27,90 +28,72 @@ pub fn maker_native(
         BuiltIn::Dict => new_dict(world, args),
         BuiltIn::Property => new_property(world, args),
         BuiltIn::Super => new_super(world, args),
-        _ => match heir(world, built_in, args) {
-            Err(raised) => Ok(Err(raised)),
-            Ok(_class) => Ok(Err(Raised::new(Cause::CannotCreate))),
-        },
+        _ => {
+            let _class = heir(world, built_in, args)?;
+            Err(Stop::raise(Cause::CannotCreate))
+        }
     }
 }
 
 // What asks another task to make an object is not made here.
-fn elsewhere() -> Result<Result<Answer, Raised>, OutOfMemory>
-    ensures { result ≡ Ok (Err (raised Cause.SelfType)) }
+fn elsewhere() -> Result<Answer, Stop>
+    ensures { result ≡ Err (Stop.Raised (raised Cause.SelfType)) }
 {
-    Ok(Err(Raised::new(Cause::SelfType)))
+    Err(Stop::raise(Cause::SelfType))
 }
 
 // A new list, which is empty.
-fn new_list(world: &mut World, args: &[PyObjectRef]) -> Result<Result<Answer, Raised>, OutOfMemory>
+fn new_list(world: &mut World, args: &[PyObjectRef]) -> Result<Answer, Stop>
     requires { Holds world.old (AreNodes args.now) }
-    ensures ends { IfOk result (λ r. EndsAs (λ t u. maker_say u BuiltIn.List args.now) world.old world.new r) }
+    ensures ends { Ended result (EndsAs (λ t u. maker_say u BuiltIn.List args.now) world.old world.new) }
     ensures safe { LeavesEnd world.old world.new result }
 {
-    match heir(world, BuiltIn::List, args) {
-        Err(raised) => Ok(Err(raised)),
-        Ok(class) => {
-            let items = Vec::new(world.alloc());
-            let node = world.make_node(class, Payload::List(items))?;
-            Ok(Ok(Answer::Value(node)))
-        }
-    }
+    let class = heir(world, BuiltIn::List, args)?;
+    let items = Vec::new(world.alloc());
+    let node = world.make_node(class, Payload::List(items))?;
+    Ok(Answer::Value(node))
 }
 
 // A new dict, which is empty.
-fn new_dict(world: &mut World, args: &[PyObjectRef]) -> Result<Result<Answer, Raised>, OutOfMemory>
+fn new_dict(world: &mut World, args: &[PyObjectRef]) -> Result<Answer, Stop>
     requires { Holds world.old (AreNodes args.now) }
-    ensures ends { IfOk result (λ r. EndsAs (λ t u. maker_say u BuiltIn.Dict args.now) world.old world.new r) }
+    ensures ends { Ended result (EndsAs (λ t u. maker_say u BuiltIn.Dict args.now) world.old world.new) }
     ensures safe { LeavesEnd world.old world.new result }
 {
-    match heir(world, BuiltIn::Dict, args) {
-        Err(raised) => Ok(Err(raised)),
-        Ok(class) => {
-            let dict = PyDict::new(world.alloc());
-            let node = world.make_node(class, Payload::Dict(dict))?;
-            Ok(Ok(Answer::Value(node)))
-        }
-    }
+    let class = heir(world, BuiltIn::Dict, args)?;
+    let dict = PyDict::new(world.alloc());
+    let node = world.make_node(class, Payload::Dict(dict))?;
+    Ok(Answer::Value(node))
 }
 
 // A new property, which has no parts.
-fn new_property(
-    world: &mut World,
-    args: &[PyObjectRef],
-) -> Result<Result<Answer, Raised>, OutOfMemory>
+fn new_property(world: &mut World, args: &[PyObjectRef]) -> Result<Answer, Stop>
     requires { Holds world.old (AreNodes args.now) }
-    ensures ends { IfOk result (λ r. EndsAs (λ t u. maker_say u BuiltIn.Property args.now) world.old world.new r) }
+    ensures ends { Ended result (EndsAs (λ t u. maker_say u BuiltIn.Property args.now) world.old world.new) }
     ensures safe { LeavesEnd world.old world.new result }
 {
-    match heir(world, BuiltIn::Property, args) {
-        Err(raised) => Ok(Err(raised)),
-        Ok(class) => {
-            let parts = PyProperty {
-                fget: None,
-                fset: None,
-                fdel: None,
-                doc: None,
-                name: None,
-            };
-            let boxed = Box::new(world.alloc(), parts)?;
-            let node = world.make_node(class, Payload::Property(boxed))?;
-            Ok(Ok(Answer::Value(node)))
-        }
-    }
+    let class = heir(world, BuiltIn::Property, args)?;
+    let parts = PyProperty {
+        fget: None,
+        fset: None,
+        fdel: None,
+        doc: None,
+        name: None,
+    };
+    let boxed = Box::new(world.alloc(), parts)?;
+    let node = world.make_node(class, Payload::Property(boxed))?;
+    Ok(Answer::Value(node))
 }
 
 // A new `super`, which looks past `object` and is bound to nothing.
-fn new_super(world: &mut World, args: &[PyObjectRef]) -> Result<Result<Answer, Raised>, OutOfMemory>
+fn new_super(world: &mut World, args: &[PyObjectRef]) -> Result<Answer, Stop>
     requires { Holds world.old (AreNodes args.now) }
-    ensures ends { IfOk result (λ r. EndsAs (λ t u. maker_say u BuiltIn.Super args.now) world.old world.new r) }
+    ensures ends { Ended result (EndsAs (λ t u. maker_say u BuiltIn.Super args.now) world.old world.new) }
     ensures safe { LeavesEnd world.old world.new result }
 {
-    match heir(world, BuiltIn::Super, args) {
-        Err(raised) => Ok(Err(raised)),
-        Ok(class) => {
-            let typ = world.built_in(BuiltIn::Object);
-            let node = world.make_node(class, Payload::Super(PySuper { typ, obj: None }))?;
-            Ok(Ok(Answer::Value(node)))
-        }
-    }
+    let class = heir(world, BuiltIn::Super, args)?;
+    let typ = world.built_in(BuiltIn::Object);
+    let parts = Boxed::new(world.alloc(), PySuper { typ, obj: None })?;
+    let node = world.make_node(class, Payload::Super(parts))?;
+    Ok(Answer::Value(node))
 }

@@ -1,6 +1,7 @@
 //! The natives of `property`.
 
-ghost use Rattle.proto_attr.specs.Below.{IfOk, Some, class_at, of_ended, Reading, Reads, bindings, plain, spelled, EndsAs, LeavesEnd, AllHold, AreNodes, Grows, Holding, Holds, IsClass, IsName, IsNode, IsOf, of_binding, of_each, of_node_ref, of_option, of_property};
+ghost use Rattle.py_node.specs.Stops.{Ended};
+ghost use Rattle.proto_attr.specs.Below.{Some, class_at, of_ended, Reading, Reads, bindings, plain, spelled, EndsAs, LeavesEnd, AllHold, AreNodes, Grows, Holding, Holds, IsClass, IsName, IsNode, IsOf, of_binding, of_each, of_node_ref, of_option, of_property};
 ghost use Rattle.std.specs.Prelude.{◌≡◌};
 ghost use Rattle.py_node.specs.declared.built_in.BuiltIn.TheVariants.{Property};
 ghost use Rattle.proto_attr.specs.NativeObjects.Descriptors.{bare, may_name, or_old, placed, property_init, property_say, property_set_name, unless_given, unless_none, property_part, part_set, with_part, with_parts, without_none};
@@ -9,50 +10,45 @@ use crate::native_objects::take::own_property;
 use class_world::takes::{three, two};
 use class_world::{Fixed, World};
 use py_node::{
-    Answer, Cause, OutOfMemory, Payload, PropertyNative, PyObjectRef, PyProperty, PyStrInterned,
-    PyTypeRef, Raised,
+    Answer, Cause, FuncArgs, Payload, PropertyNative, PyObjectRef, PyProperty, PyStrInterned,
+    PyTypeRef, Raised, Stop,
 };
 
 /// A native of `property`.
 pub fn property_native(
     world: &mut World,
     native: PropertyNative,
-    args: &[PyObjectRef],
-    kw: &[(PyStrInterned, PyObjectRef)],
-) -> Result<Result<Answer, Raised>, OutOfMemory>
-    requires args { Holds world.old (AreNodes args.now) }
-    requires kw { AllHold world.old (of_each of_binding kw.now) }
-    ensures ends { IfOk result (λ r. EndsAs (λ t u. property_say u native args.now (bindings t kw.now))
-        world.old world.new r) }
+    call: FuncArgs<'_>,
+) -> Result<Answer, Stop>
+    requires args { Holds world.old (AreNodes call.args.now) }
+    requires kw { AllHold world.old (of_each of_binding call.kw.now) }
+    ensures ends { Ended result (EndsAs (λ t u. property_say u native call.entry.args.now (bindings t call.entry.kw.now))
+        world.old world.new) }
     ensures safe { LeavesEnd world.old world.new result }
 {
     match native {
-        PropertyNative::Init => Ok(property_init(world, args, kw)),
-        PropertyNative::SetName => Ok(property_set_name(world, args, kw)),
+        PropertyNative::Init => Ok(property_init(world, call)?),
+        PropertyNative::SetName => Ok(property_set_name(world, call)?),
         PropertyNative::Getter | PropertyNative::Setter | PropertyNative::Deleter => {
-            property_part(world, native, args, kw)
+            property_part(world, native, call)
         }
-        _ => Ok(Err(Raised::new(Cause::SelfType))),
+        _ => Err(Stop::raise(Cause::SelfType)),
     }
 }
 
 // A property gets its parts, by their places and by keywords.
-fn property_init(
-    world: &mut World,
-    args: &[PyObjectRef],
-    kw: &[(PyStrInterned, PyObjectRef)],
-) -> Result<Answer, Raised>
-    requires args { Holds world.old (AreNodes args.now) }
-    requires kw { AllHold world.old (of_each of_binding kw.now) }
-    ensures ends { EndsAs (λ t u. property_init u args.now (bindings t kw.now)) world.old world.new result }
+fn property_init(world: &mut World, call: FuncArgs<'_>) -> Result<Answer, Raised>
+    requires args { Holds world.old (AreNodes call.args.now) }
+    requires kw { AllHold world.old (of_each of_binding call.kw.now) }
+    ensures ends { EndsAs (λ t u. property_init u call.entry.args.now (bindings t call.entry.kw.now)) world.old world.new result }
     ensures grows { Grows world.old world.new }
     ensures holds { AllHold world.new (of_ended result) }
 {
-    let (object, _old) = own_property(world, args)?;
-    if args.len() > 6 {
+    let (object, _old) = own_property(world, call.args)?;
+    if call.args.len() > 6 {
         return Err(Raised::new(Cause::ArgCount));
     }
-    let Some(parts) = with_parts(world, placed(args), kw) else {
+    let Some(parts) = with_parts(world, placed(call.args), call.kw) else {
         return Err(Raised::new(Cause::UnexpectedKeyword));
     };
     let parts = without_none(parts);
@@ -197,18 +193,14 @@ fn may_name(world: &World, name: Option<PyObjectRef>) -> bool
 }
 
 // A property is told the name that it gets in a class.
-fn property_set_name(
-    world: &mut World,
-    args: &[PyObjectRef],
-    kw: &[(PyStrInterned, PyObjectRef)],
-) -> Result<Answer, Raised>
-    requires { Holds world.old (AreNodes args.now) }
-    ensures ends { EndsAs (λ t u. property_set_name u args.now (bindings t kw.now)) world.old world.new result }
+fn property_set_name(world: &mut World, call: FuncArgs<'_>) -> Result<Answer, Raised>
+    requires { Holds world.old (AreNodes call.args.now) }
+    ensures ends { EndsAs (λ t u. property_set_name u call.entry.args.now (bindings t call.entry.kw.now)) world.old world.new result }
     ensures grows { Grows world.old world.new }
     ensures holds { AllHold world.new (of_ended result) }
 {
-    let (object, parts) = own_property(world, args)?;
-    let (_, _, name) = three(args, kw)?;
+    let (object, parts) = own_property(world, call.args)?;
+    let (_, _, name) = three(call)?;
     let parts = PyProperty {
         name: Some(name),
         ..parts
@@ -221,28 +213,20 @@ fn property_set_name(
 fn property_part(
     world: &mut World,
     native: PropertyNative,
-    args: &[PyObjectRef],
-    kw: &[(PyStrInterned, PyObjectRef)],
-) -> Result<Result<Answer, Raised>, OutOfMemory>
-    requires { Holds world.old (AreNodes args.now) }
-    ensures ends { IfOk result (λ r. EndsAs (λ t u. property_part u native args.now (bindings t kw.now))
-        world.old world.new r) }
+    call: FuncArgs<'_>,
+) -> Result<Answer, Stop>
+    requires { Holds world.old (AreNodes call.args.now) }
+    ensures ends { Ended result (EndsAs (λ t u. property_part u native call.entry.args.now (bindings t call.entry.kw.now))
+        world.old world.new) }
     ensures safe { LeavesEnd world.old world.new result }
 {
-    let (object, parts) = match own_property(world, args) {
-        Err(raised) => return Ok(Err(raised)),
-        Ok(own) => own,
-    };
-    match two(args, kw) {
-        Err(raised) => Ok(Err(raised)),
-        Ok((_, part)) => {
-            let parts = with_other(native, bare(parts), part);
-            let class = class_of_property(world, object);
-            let boxed = Box::new(world.alloc(), parts)?;
-            let node = world.make_node(class, Payload::Property(boxed))?;
-            Ok(Ok(Answer::Value(node)))
-        }
-    }
+    let (object, parts) = own_property(world, call.args)?;
+    let (_, part) = two(call)?;
+    let parts = with_other(native, bare(parts), part);
+    let class = class_of_property(world, object);
+    let boxed = Box::new(world.alloc(), parts)?;
+    let node = world.make_node(class, Payload::Property(boxed))?;
+    Ok(Answer::Value(node))
 }
 
 // The class of a property, whose objects are properties.

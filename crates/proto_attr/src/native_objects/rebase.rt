@@ -1,6 +1,7 @@
 //! Other bases for a class.
 
-ghost use Rattle.proto_attr.specs.Below.{option_map, IfOk, IfSome, numbers, all_some, class_number, datum_at, Reading, plain, EndsAs, LeavesEnd, AllHold, AreNodes, IsClass, IsNode, Holds, of_class_ref, of_each};
+ghost use Rattle.py_node.specs.Stops.{Ended};
+ghost use Rattle.proto_attr.specs.Below.{option_map, IfOk, IfSome, numbers, datum_at, Reading, plain, EndsAs, LeavesEnd, AllHold, AreNodes, IsClass, IsNode, Holds, of_class_ref, of_each};
 ghost use Rattle.std.specs.Prelude.{◌≡◌, ◌≤◌};
 ghost use Rattle.py_node.specs.declared.entry.Property.TheVariants as property;
 ghost use Rattle.proto_attr.specs.NativeObjects.Setters.{all_classes, class_written, classes_in, rebased};
@@ -8,7 +9,7 @@ ghost use Rattle.proto_attr.specs.NativeObjects.Setters.{all_classes, class_writ
 use crate::native_objects::class_setters::heap_value;
 use class_table::{ClassFault, Steps};
 use class_world::{Fixed, World};
-use py_node::{Answer, Cause, OutOfMemory, Payload, PyObjectRef, PyTypeRef, Raised};
+use py_node::{Answer, Cause, OutOfMemory, Payload, PyObjectRef, PyTypeRef, Raised, Stop};
 use std::marker::Brand;
 use std::sync::ledger::{Blank, Ledger};
 
@@ -17,19 +18,17 @@ pub(crate) fn set_bases(
     world: &mut World,
     class: PyTypeRef,
     given: Option<PyObjectRef>,
-) -> Result<Result<Answer, Raised>, OutOfMemory>
+) -> Result<Answer, Stop>
     requires class { Holds world.old (IsClass class.0) }
     requires given { IfSome given (λ r. Holds world.old (IsNode r)) }
-    ensures ends { IfOk result (λ r. EndsAs (λ t u. class_written u property.Bases class.0 given)
-        world.old world.new r) }
+    ensures ends { Ended result (EndsAs (λ t u. class_written u property.Bases class.0 given)
+        world.old world.new) }
     ensures safe { LeavesEnd world.old world.new result }
 {
-    match heap_value(world, class, given) {
-        Err(raised) => Ok(Err(raised)),
-        Ok(value) => match classes_in(world, value)? {
-            None => Ok(Err(Raised::new(Cause::BasesShape))),
-            Some(bases) => rebased::<Brand>(world, class, bases, Blank::new(2)),
-        },
+    let value = heap_value(world, class, given)?;
+    match classes_in(world, value)? {
+        None => Err(Stop::raise(Cause::BasesShape)),
+        Some(bases) => rebased::<Brand>(world, class, bases, Blank::new(2)),
     }
 }
 
@@ -70,20 +69,20 @@ fn rebased<L: Ledger>(
     class: PyTypeRef,
     bases: Vec<PyTypeRef>,
     blank: Blank,
-) -> Result<Result<Answer, Raised>, OutOfMemory>
+) -> Result<Answer, Stop>
     requires class { Holds world.old (IsClass class.0) }
     requires bases { AllHold world.old (of_each of_class_ref bases.items) }
     requires name { blank.name ≡ L.name }
     requires parts { blank.parts ≡ L.parts }
     requires both { 2 ≤ L.parts }
-    ensures ends { IfOk result (λ r. EndsAs (λ t u. rebased u class.0 (numbers bases.items)) world.old world.new r) }
+    ensures ends { Ended result (EndsAs (λ t u. rebased u class.0 (numbers bases.items)) world.old world.new) }
     ensures safe { LeavesEnd world.old world.new result }
 {
     let mut steps = Steps::<L>::new(blank);
     match world.set_bases(class, bases, &mut steps) {
-        Ok(()) => Ok(Ok(Answer::Value(world.fixed(Fixed::None)))),
-        Err(ClassFault::Refused(cause)) => Ok(Err(Raised::new(cause))),
-        Err(ClassFault::RefusedAt(cause, _)) => Ok(Err(Raised::new(cause))),
-        Err(ClassFault::OutOfMemory) => Err(OutOfMemory),
+        Ok(()) => Ok(Answer::Value(world.fixed(Fixed::None))),
+        Err(ClassFault::Refused(cause)) => Err(Stop::raise(cause)),
+        Err(ClassFault::RefusedAt(cause, _)) => Err(Stop::raise(cause)),
+        Err(ClassFault::OutOfMemory) => Err(Stop::OutOfMemory),
     }
 }

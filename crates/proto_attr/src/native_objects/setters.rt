@@ -1,6 +1,7 @@
 //! What is set of `object` and `type` through setters.
 
-ghost use Rattle.proto_attr.specs.Below.{true, is_some, IfOk, IfSome, Dict, dict_of, class_number, PlainWorld, Ends, datum_at, of_ended, Reading, bindings, ended_of, plain, EndsAs, LeavesEnd, AllHold, AreNodes, Grows, Holding, IsClass, IsNode, Holds};
+ghost use Rattle.py_node.specs.Stops.{Ended};
+ghost use Rattle.proto_attr.specs.Below.{true, is_some, IfSome, Dict, dict_of, class_number, PlainWorld, Ends, datum_at, of_ended, Reading, bindings, ended_of, plain, EndsAs, LeavesEnd, AllHold, AreNodes, Grows, Holding, IsClass, IsNode, Holds};
 ghost use Rattle.std.specs.Prelude.{◌≡◌};
 ghost use Rattle.proto_attr.specs.NativeObjects.Setters.{class_written, is_dict, redicted, reclassed, set_class, set_class_dict, set_dict, setter_say};
 
@@ -8,62 +9,51 @@ use crate::native_objects::class_setters::{set_annotations, set_module, set_name
 use crate::native_objects::rebase::set_bases;
 use crate::native_objects::take::{class_and_given, one_or_two};
 use class_world::{Fixed, World};
-use py_node::{
-    Answer, Cause, OutOfMemory, Payload, Property, PyObjectRef, PyStrInterned, PyTypeRef, Raised,
-};
+use py_node::{Answer, Cause, FuncArgs, Payload, Property, PyObjectRef, PyTypeRef, Raised, Stop};
 
 /// What is set of any object, or of a class.
 pub fn setter_native(
     world: &mut World,
     property: Property,
-    args: &[PyObjectRef],
-    kw: &[(PyStrInterned, PyObjectRef)],
-) -> Result<Result<Answer, Raised>, OutOfMemory>
-    requires { Holds world.old (AreNodes args.now) }
-    ensures ends { IfOk result (λ r. EndsAs (λ t u. setter_say u property args.now (bindings t kw.now))
-        world.old world.new r) }
+    call: FuncArgs<'_>,
+) -> Result<Answer, Stop>
+    requires { Holds world.old (AreNodes call.args.now) }
+    ensures ends { Ended result (EndsAs (λ t u. setter_say u property call.entry.args.now (bindings t call.entry.kw.now))
+        world.old world.new) }
     ensures safe { LeavesEnd world.old world.new result }
 {
     match property {
-        Property::Class => Ok(class_of_any(world, args, kw)),
-        Property::InstanceDict => Ok(dict_of_any(world, args, kw)),
-        property => match class_and_given(world, args, kw) {
-            Err(raised) => Ok(Err(raised)),
-            Ok((class, given)) => class_written(world, property, class, given),
-        },
+        Property::Class => Ok(class_of_any(world, call)?),
+        Property::InstanceDict => Ok(dict_of_any(world, call)?),
+        property => {
+            let (class, given) = class_and_given(world, call)?;
+            class_written(world, property, class, given)
+        }
     }
 }
 
 // The class of an object.
-fn class_of_any(
-    world: &mut World,
-    args: &[PyObjectRef],
-    kw: &[(PyStrInterned, PyObjectRef)],
-) -> Result<Answer, Raised>
-    requires { Holds world.old (AreNodes args.now) }
-    ensures ends { EndsAs (λ t u. setter_say u Property.Class args.now (bindings t kw.now)) world.old world.new result }
+fn class_of_any(world: &mut World, call: FuncArgs<'_>) -> Result<Answer, Raised>
+    requires { Holds world.old (AreNodes call.args.now) }
+    ensures ends { EndsAs (λ t u. setter_say u Property.Class call.entry.args.now (bindings t call.entry.kw.now)) world.old world.new result }
     ensures grows { Grows world.old world.new }
     ensures holds { AllHold world.new (of_ended result) }
 {
-    match one_or_two(args, kw) {
+    match one_or_two(call) {
         Err(raised) => Err(raised),
         Ok((object, given)) => set_class(world, object, given),
     }
 }
 
 // The dict of an object, which for a class is that of its attributes.
-fn dict_of_any(
-    world: &mut World,
-    args: &[PyObjectRef],
-    kw: &[(PyStrInterned, PyObjectRef)],
-) -> Result<Answer, Raised>
-    requires { Holds world.old (AreNodes args.now) }
-    ensures ends { EndsAs (λ t u. setter_say u Property.InstanceDict args.now (bindings t kw.now))
+fn dict_of_any(world: &mut World, call: FuncArgs<'_>) -> Result<Answer, Raised>
+    requires { Holds world.old (AreNodes call.args.now) }
+    ensures ends { EndsAs (λ t u. setter_say u Property.InstanceDict call.entry.args.now (bindings t call.entry.kw.now))
         world.old world.new result }
     ensures grows { Grows world.old world.new }
     ensures holds { AllHold world.new (of_ended result) }
 {
-    match one_or_two(args, kw) {
+    match one_or_two(call) {
         Err(raised) => Err(raised),
         Ok((object, given)) => set_dict(world, object, given),
     }
@@ -75,10 +65,10 @@ fn class_written(
     property: Property,
     class: PyTypeRef,
     given: Option<PyObjectRef>,
-) -> Result<Result<Answer, Raised>, OutOfMemory>
+) -> Result<Answer, Stop>
     requires class { Holds world.old (IsClass class.0) }
     requires given { IfSome given (λ r. Holds world.old (IsNode r)) }
-    ensures ends { IfOk result (λ r. EndsAs (λ t u. class_written u property class.0 given) world.old world.new r) }
+    ensures ends { Ended result (EndsAs (λ t u. class_written u property class.0 given) world.old world.new) }
     ensures safe { LeavesEnd world.old world.new result }
 {
     match property {
@@ -86,14 +76,14 @@ fn class_written(
         Property::Qualname => set_qualname(world, class, given),
         Property::Module => set_module(world, class, given),
         Property::Bases => set_bases(world, class, given),
-        Property::Dict => Ok(set_class_dict(given)),
+        Property::Dict => Ok(set_class_dict(given)?),
         Property::Annotations => set_annotations(world, class, given),
         Property::Class
         | Property::Base
         | Property::Mro
         | Property::Flags
         | Property::TextSignature
-        | Property::InstanceDict => Ok(Err(Raised::new(Cause::NoSetter))),
+        | Property::InstanceDict => Err(Stop::raise(Cause::NoSetter)),
     }
 }
 

@@ -7,29 +7,28 @@ ghost use Rattle.proto_attr.specs.NativeObjects.Takes.{with_class_and_given, wit
 
 use class_world::World;
 use class_world::takes::{one, two};
-use py_node::{Cause, Payload, PyObjectRef, PyProperty, PyStrInterned, PySuper, PyTypeRef, Raised};
+use py_node::{
+    Cause, FuncArgs, Payload, PyObjectRef, PyProperty, PyStrInterned, PySuper, PyTypeRef, Raised,
+};
 use row_kit::take_classes::own_class;
 
 /// The only argument, or the first one with a second, or why the arguments are refused.
-pub(crate) fn one_or_two(
-    args: &[PyObjectRef],
-    kw: &[(PyStrInterned, PyObjectRef)],
-) -> Result<(PyObjectRef, Option<PyObjectRef>), Raised>
+pub(crate) fn one_or_two(call: FuncArgs<'_>) -> Result<(PyObjectRef, Option<PyObjectRef>), Raised>
     ensures given { IfOk result (λ p. (t : Reading) (w : PlainWorld) (go : Object → Option Object → Said) →
-        with_one_or_two w args.now (bindings t kw.now) go ≡ go p.0 p.1) }
+        with_one_or_two w call.entry.args.now (bindings t call.entry.kw.now) go ≡ go p.0 p.1) }
     ensures refused { IfErr result (λ x. (t : Reading) (w : PlainWorld) (go : Object → Option Object → Said) →
-        with_one_or_two w args.now (bindings t kw.now) go ≡ Ends w (Err x)) }
-    ensures first { IfOk result (λ p. (w : Held) → Holds w (AreNodes args.now) → Holds w (IsNode p.0)) }
-    ensures second { IfOk result (λ p. (w : Held) → Holds w (AreNodes args.now) →
+        with_one_or_two w call.entry.args.now (bindings t call.entry.kw.now) go ≡ Ends w (Err x)) }
+    ensures first { IfOk result (λ p. (w : Held) → Holds w (AreNodes call.entry.args.now) → Holds w (IsNode p.0)) }
+    ensures second { IfOk result (λ p. (w : Held) → Holds w (AreNodes call.entry.args.now) →
         IfSome p.1 (λ r. Holds w (IsNode r))) }
 {
-    if args.len() == 2 {
-        match two(args, kw) {
+    if call.args.len() == 2 {
+        match two(call) {
             Err(raised) => Err(raised),
             Ok((object, value)) => Ok((object, Some(value))),
         }
     } else {
-        match one(args, kw) {
+        match one(call) {
             Err(raised) => Err(raised),
             Ok(object) => Ok((object, None)),
         }
@@ -39,20 +38,19 @@ pub(crate) fn one_or_two(
 /// The class that the first argument is, and the second argument, if there is one, or why the arguments are refused.
 pub(crate) fn class_and_given(
     world: &World,
-    args: &[PyObjectRef],
-    kw: &[(PyStrInterned, PyObjectRef)],
+    call: FuncArgs<'_>,
 ) -> Result<(PyTypeRef, Option<PyObjectRef>), Raised>
-    requires { Holds world.now (AreNodes args.now) }
+    requires { Holds world.now (AreNodes call.args.now) }
     ensures given { IfOk result (λ p. (t : Reading) (go : ℕ → Option Object → Said) →
-        with_class_and_given (plain t world.now) args.now (bindings t kw.now) go ≡ go p.0.0 p.1) }
+        with_class_and_given (plain t world.now) call.entry.args.now (bindings t call.entry.kw.now) go ≡ go p.0.0 p.1) }
     ensures refused { IfErr result (λ x. (t : Reading) (go : ℕ → Option Object → Said) →
-        with_class_and_given (plain t world.now) args.now (bindings t kw.now) go ≡ Ends (plain t world.now) (Err x)) }
+        with_class_and_given (plain t world.now) call.entry.args.now (bindings t call.entry.kw.now) go ≡ Ends (plain t world.now) (Err x)) }
     ensures class { IfOk result (λ p. Holds world.now (IsClass p.0.0)) }
     ensures node { IfOk result (λ p. IfSome p.1 (λ r. Holds world.now (IsNode r))) }
 {
-    match own_class(world, args) {
+    match own_class(world, call.args) {
         Err(raised) => Err(raised),
-        Ok(class) => match one_or_two(args, kw) {
+        Ok(class) => match one_or_two(call) {
             Err(raised) => Err(raised),
             Ok((_object, given)) => Ok((class, given)),
         },
@@ -75,7 +73,10 @@ pub(crate) fn own_method(
     match args {
         [] => Err(Raised::new(Cause::ArgCount)),
         [o, ..] => match world.payload(*o) {
-            Payload::MethodDescriptor(m) => Ok((*o, (m.class, m.name))),
+            Payload::MethodDescriptor(m) => {
+                let m = m.get();
+                Ok((*o, (m.class, m.name)))
+            }
             _ => Err(Raised::new(Cause::SelfType)),
         },
     }
@@ -118,7 +119,7 @@ pub(crate) fn own_super(
     match args {
         [] => Err(Raised::new(Cause::ArgCount)),
         [o, ..] => match world.payload(*o) {
-            Payload::Super(s) => Ok((*o, *s)),
+            Payload::Super(s) => Ok((*o, *s.get())),
             _ => Err(Raised::new(Cause::SelfType)),
         },
     }

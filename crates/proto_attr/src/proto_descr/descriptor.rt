@@ -1,6 +1,7 @@
 //! What descriptors give.
 #![tactic(auto, unfolding(crate::specs::ProtoDescr::Say::descriptor_say, py_node::specs::BuiltIns::place_of))]
 
+ghost use Rattle.py_node.specs.Stops.{Ended};
 ghost use Rattle.proto_attr.specs.Below.{Option, Some, IfOk, raised, AllHold, Grows, Holds, IsNode, of_option, of_node_ref, Held, of_descriptor_task, of_ended, Leaves, Reading, plain, ended_of, PlainWorld, Ends, datum_at, PyObjectRef as Object};
 ghost use Rattle.std.specs.Prelude.{◌≡◌, ◌∷◌, ◌++◌};
 ghost use Rattle.py_node.specs.declared.task.DescriptorTask.TheVariants as descriptor;
@@ -16,14 +17,11 @@ use bitflags::Flags;
 use class_world::args::both;
 use class_world::{Fixed, World};
 use py_node::{
-    Answer, AttributeTask, BoundMethod, BuiltIn, BuiltinMethod, CallableNative, Cause,
+    Answer, AttributeTask, BoundMethod, Boxed, BuiltIn, BuiltinMethod, CallableNative, Cause,
     DescriptorNative, Known, MethodDescriptor, NativeEntry, OutOfMemory, Payload, PropertyNative,
-    PyMethodFlags, PyObjectRef, PyTypeRef, Raised, SlotEntry, SlotId, Step, SuperNative, Task,
-    WrapperNative,
+    PyMethodFlags, PyObjectRef, PyTypeRef, Raised, SlotEntry, SlotId, Step, Stop, SuperNative,
+    Task, WrapperNative, caught,
 };
-
-/// How a row ends.
-pub type Ended = Result<Answer, Raised>;
 
 // A descriptor's value for an object and a class, as its class's entry for that says.
 pub(crate) fn descr_get(
@@ -40,7 +38,7 @@ pub(crate) fn descr_get(
         Some(SlotEntry::Wrapper(_)) => get_by_method(world, m, o, class),
         Some(SlotEntry::Native(NativeEntry::OfCallable(CallableNative::GetFunction))) => {
             let class = class_of_option(world, class);
-            let ended = function_get(world, m, o, class)?;
+            let ended = caught(function_get(world, m, o, class))?;
             Ok(Step::End(ended))
         }
         Some(SlotEntry::Native(NativeEntry::OfCallable(CallableNative::GetMethodDescriptor))) => {
@@ -83,7 +81,7 @@ fn get_of_native(
     ensures safe { Leaves of_descriptor_kept world.old world.new result }
 {
     let native = descriptor_of(world, m);
-    let ended = native_get(world, native, m, o, class)?;
+    let ended = caught(native_get(world, native, m, o, class))?;
     Ok(Step::End(ended))
 }
 
@@ -93,12 +91,11 @@ pub fn bind_function(
     m: PyObjectRef,
     o: Option<PyObjectRef>,
     class: Option<PyObjectRef>,
-) -> Result<Ended, OutOfMemory>
+) -> Result<Answer, Stop>
     requires { AllHold world.old (of_descriptor_task (descriptor.DescrGet m o class)) }
-    ensures goes { IfOk result (λ r.
-        EndsAs (λ t w. function_get w m o (class_of_option w class)) world.old world.new r) }
+    ensures goes { Ended result (EndsAs (λ t w. function_get w m o (class_of_option w class)) world.old world.new) }
     ensures grows { Grows world.old world.new }
-    ensures safe { IfOk result (λ r. AllHold world.new (of_ended r)) }
+    ensures safe { Ended result (λ r. AllHold world.new (of_ended r)) }
 {
     let class = class_of_option(world, class);
     function_get(world, m, o, class)
@@ -110,12 +107,11 @@ pub fn bind_native(
     m: PyObjectRef,
     o: Option<PyObjectRef>,
     class: Option<PyObjectRef>,
-) -> Result<Ended, OutOfMemory>
+) -> Result<Answer, Stop>
     requires { AllHold world.old (of_descriptor_task (descriptor.DescrGet m o class)) }
-    ensures goes { IfOk result (λ r.
-        EndsAs (λ t w. native_get w (datum_at w m) m o class) world.old world.new r) }
+    ensures goes { Ended result (EndsAs (λ t w. native_get w (datum_at w m) m o class) world.old world.new) }
     ensures grows { Grows world.old world.new }
-    ensures safe { IfOk result (λ r. AllHold world.new (of_ended r)) }
+    ensures safe { Ended result (λ r. AllHold world.new (of_ended r)) }
 {
     let native = descriptor_of(world, m);
     native_get(world, native, m, o, class)
@@ -171,17 +167,17 @@ fn function_get(
     m: PyObjectRef,
     o: Option<PyObjectRef>,
     class: Option<PyTypeRef>,
-) -> Result<Ended, OutOfMemory>
+) -> Result<Answer, Stop>
     requires { AllHold world.old (IsNode m ∷ of_option of_node_ref o) }
-    ensures goes { IfOk result (λ r. EndsAs (λ t w. function_get w m o (number class)) world.old world.new r) }
+    ensures goes { Ended result (EndsAs (λ t w. function_get w m o (number class)) world.old world.new) }
     ensures grows { Grows world.old world.new }
-    ensures safe { IfOk result (λ r. AllHold world.new (of_ended r)) }
+    ensures safe { Ended result (λ r. AllHold world.new (of_ended r)) }
 {
     match o {
-        None => Ok(Ok(Answer::Value(m))),
+        None => Ok(Answer::Value(m)),
         Some(object) => {
             if is_object_none(object, class) {
-                return Ok(Ok(Answer::Value(m)));
+                return Ok(Answer::Value(m));
             }
             let method = BoundMethod {
                 target: object,
@@ -189,7 +185,7 @@ fn function_get(
             };
             let class = world.built_in(BuiltIn::Method);
             let node = world.make_node(class, Payload::Method(method))?;
-            Ok(Ok(Answer::Value(node)))
+            Ok(Answer::Value(node))
         }
     }
 }
@@ -219,7 +215,7 @@ fn descriptor_of(world: &World, m: PyObjectRef) -> Option<MethodDescriptor>
     ensures holds { AllHold world.now (of_option native_of result) }
 {
     match world.payload(m) {
-        Payload::MethodDescriptor(native) => Some(*native),
+        Payload::MethodDescriptor(native) => Some(*native.get()),
         _ => None,
     }
 }
@@ -231,16 +227,15 @@ fn native_get(
     m: PyObjectRef,
     o: Option<PyObjectRef>,
     class: Option<PyObjectRef>,
-) -> Result<Ended, OutOfMemory>
+) -> Result<Answer, Stop>
     requires native { AllHold world.old (of_option native_of native) }
     requires task { AllHold world.old (of_descriptor_task (descriptor.DescrGet m o class)) }
-    ensures goes { IfOk result (λ r.
-        EndsAs (λ t w. native_get w (described t native) m o class) world.old world.new r) }
+    ensures goes { Ended result (EndsAs (λ t w. native_get w (described t native) m o class) world.old world.new) }
     ensures grows { Grows world.old world.new }
-    ensures safe { IfOk result (λ r. AllHold world.new (of_ended r)) }
+    ensures safe { Ended result (λ r. AllHold world.new (of_ended r)) }
 {
     match native {
-        None => Ok(Ok(Answer::Value(m))),
+        None => Ok(Answer::Value(m)),
         Some(native) => {
             let flags = PyMethodFlags(native.flags);
             if flags.contains(PyMethodFlags::METHOD) {
@@ -249,7 +244,7 @@ fn native_get(
             } else if flags.contains(PyMethodFlags::CLASS) {
                 class_get(world, native, o, class)
             } else {
-                Ok(static_get(m, o))
+                Ok(static_get(m, o)?)
             }
         }
     }
@@ -262,18 +257,17 @@ fn object_get(
     m: PyObjectRef,
     o: Option<PyObjectRef>,
     class: Option<PyTypeRef>,
-) -> Result<Ended, OutOfMemory>
+) -> Result<Answer, Stop>
     requires native { AllHold world.old (native_of native) }
     requires task { AllHold world.old (IsNode m ∷ of_option of_node_ref o) }
-    ensures goes { IfOk result (λ r.
-        EndsAs (λ t w. object_get w m (bound_as t w native) o (number class)) world.old world.new r) }
+    ensures goes { Ended result (EndsAs (λ t w. object_get w m (bound_as t w native) o (number class)) world.old world.new) }
     ensures grows { Grows world.old world.new }
-    ensures safe { IfOk result (λ r. AllHold world.new (of_ended r)) }
+    ensures safe { Ended result (λ r. AllHold world.new (of_ended r)) }
 {
     match o {
-        None => Ok(Ok(Answer::Value(m))),
+        None => Ok(Answer::Value(m)),
         Some(object) => match class {
-            None => Ok(Err(needs_type())),
+            None => Err(needs_type().into()),
             Some(_) => bound_native(world, native, object),
         },
     }
@@ -285,12 +279,12 @@ fn class_get(
     native: MethodDescriptor,
     o: Option<PyObjectRef>,
     class: Option<PyObjectRef>,
-) -> Result<Ended, OutOfMemory>
+) -> Result<Answer, Stop>
     requires native { AllHold world.old (native_of native) }
     requires task { AllHold world.old (of_option of_node_ref o ++ of_option of_node_ref class) }
-    ensures goes { IfOk result (λ r. EndsAs (λ t w. class_get w (bound_as t w native) o class) world.old world.new r) }
+    ensures goes { Ended result (EndsAs (λ t w. class_get w (bound_as t w native) o class) world.old world.new) }
     ensures grows { Grows world.old world.new }
-    ensures safe { IfOk result (λ r. AllHold world.new (of_ended r)) }
+    ensures safe { Ended result (λ r. AllHold world.new (of_ended r)) }
 {
     match o {
         Some(object) => {
@@ -298,14 +292,14 @@ fn class_get(
             bound_native(world, native, target)
         }
         None => match class {
-            None => Ok(Err(needs_type())),
+            None => Err(needs_type().into()),
             Some(target) => bound_native(world, native, target),
         },
     }
 }
 
 // A static native is itself, and of no object.
-fn static_get(m: PyObjectRef, o: Option<PyObjectRef>) -> Ended
+fn static_get(m: PyObjectRef, o: Option<PyObjectRef>) -> Result<Answer, Raised>
     ensures goes { (w : PlainWorld) → static_get w m o ≡ Ends w (ended_of result) }
     ensures safe { (w : Held) → Holds w (IsNode m) → AllHold w (of_ended result) }
 {
@@ -327,12 +321,12 @@ fn bound_native(
     world: &mut World,
     native: MethodDescriptor,
     target: PyObjectRef,
-) -> Result<Ended, OutOfMemory>
+) -> Result<Answer, Stop>
     requires native { AllHold world.old (native_of native) }
     requires target { Holds world.old (IsNode target) }
-    ensures goes { IfOk result (λ r. EndsAs (λ t w. bound_as t w native target) world.old world.new r) }
+    ensures goes { Ended result (EndsAs (λ t w. bound_as t w native target) world.old world.new) }
     ensures grows { Grows world.old world.new }
-    ensures safe { IfOk result (λ r. AllHold world.new (of_ended r)) }
+    ensures safe { Ended result (λ r. AllHold world.new (of_ended r)) }
 {
     let method = BuiltinMethod {
         name: native.name,
@@ -342,6 +336,7 @@ fn bound_native(
         doc: native.doc,
     };
     let class = world.built_in(BuiltIn::BuiltinMethod);
+    let method = Boxed::new(world.alloc(), method)?;
     let node = world.make_node(class, Payload::BuiltinMethod(method))?;
-    Ok(Ok(Answer::Value(node)))
+    Ok(Answer::Value(node))
 }

@@ -98,7 +98,7 @@ pub fn getset_set(
     ensures safe { Leaves nothing_held world.now world.now result }
 {
     match world.payload(m) {
-        Payload::GetSet(parts) => match parts.setter {
+        Payload::GetSet(parts) => match parts.get().setter {
             None => Ok(Step::raise(Cause::NoSetter)),
             Some(native) => {
                 let task = set_by_native(world, native, o, value)?;

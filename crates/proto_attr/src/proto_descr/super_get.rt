@@ -58,14 +58,17 @@ fn bound(world: &World, s: PyObjectRef) -> Option<BoundSuper>
     ensures holds { AllHold world.now (of_option of_bound result) }
 {
     match world.payload(s) {
-        Payload::Super(parts) => match parts.obj {
-            None => None,
-            Some((object, start)) => Some(BoundSuper {
-                class: parts.typ,
-                object,
-                start,
-            }),
-        },
+        Payload::Super(parts) => {
+            let parts = parts.get();
+            match parts.obj {
+                None => None,
+                Some((object, start)) => Some(BoundSuper {
+                    class: parts.typ,
+                    object,
+                    start,
+                }),
+            }
+        }
         _ => None,
     }
 }

@@ -2,6 +2,7 @@
 #![tactic(auto, using(class_world::proofs::Items::item_holds), unfolding(crate::specs::ProtoDescr::Say::descriptor_say))]
 
 ghost use Rattle.proto_attr.specs.Below.{[], Err, IfOk, Ok, running, of_descriptor_task, of_ended, Leaves, Reading, plain, AllHold, AreNodes, Grows, Holds, IsNode, of_payload};
+ghost use Rattle.py_node.specs.Stops.{Ended};
 ghost use Rattle.std.specs.Prelude.{◌≡◌};
 ghost use Rattle.py_node.specs.declared.payload.Payload.TheVariants as payload;
 ghost use Rattle.py_node.specs.declared.task.DescriptorTask.TheVariants as descriptor;
@@ -9,23 +10,30 @@ ghost use Rattle.proto_attr.specs.ProtoDescr.Supers.{init_with, parts_of_body, s
 ghost use Rattle.proto_attr.specs.ProtoDescr.Rows.{Begins, EndsAs, Initialises, Resumes, bound_to, of_descriptor_kept, of_parts, parts_of};
 
 use crate::proto_descr::DescriptorKept;
-use crate::proto_descr::descriptor::Ended;
 use crate::proto_descr::super_start::Unbound;
 use class_world::{Fixed, World};
 use py_node::task::Args;
 use py_node::{
-    Answer, Cause, DescriptorTask, Payload, PyObjectRef, PySuper, PyTypeRef, Raised, Step, Task,
+    Answer, Boxed, Cause, DescriptorTask, OutOfMemory, Payload, PyObjectRef, PySuper, PyTypeRef,
+    Raised, Step, Stop, Task, caught,
 };
 
 // A `super` is initialised with a class and an object, which it may find by itself.
-pub(crate) fn super_init(world: &mut World, s: PyObjectRef, args: Args) -> Step<DescriptorKept>
+pub(crate) fn super_init(
+    world: &mut World,
+    s: PyObjectRef,
+    args: Args,
+) -> Result<Step<DescriptorKept>, OutOfMemory>
     requires { AllHold world.old (of_descriptor_task (descriptor.SuperInit s args)) }
-    ensures goes { Begins (descriptor.SuperInit s args) world.old world.new result }
-    ensures safe { Leaves of_descriptor_kept world.old world.new (Ok result) }
+    ensures goes { IfOk result (λ step. Begins (descriptor.SuperInit s args) world.old world.new step) }
+    ensures safe { Leaves of_descriptor_kept world.old world.new result }
 {
     match parts(world, args.as_slice()) {
-        Err(raised) => Step::End(Err(raised)),
-        Ok(parts) => init_with(world, s, parts),
+        Err(raised) => Ok(Step::End(Err(raised))),
+        Ok(parts) => {
+            let step = init_with(world, s, parts)?;
+            Ok(step)
+        }
     }
 }
 
@@ -73,45 +81,48 @@ fn parts_of_body(world: &World) -> Result<Unbound, Raised>
 }
 
 // With an object other than None, to which it is bound, it is told where to start.
-fn init_with(world: &mut World, s: PyObjectRef, parts: Unbound) -> Step<DescriptorKept>
+fn init_with(
+    world: &mut World,
+    s: PyObjectRef,
+    parts: Unbound,
+) -> Result<Step<DescriptorKept>, OutOfMemory>
     requires object { Holds world.old (IsNode s) }
     requires parts { AllHold world.old (of_parts parts) }
-    ensures goes { Initialises s (λ w. init_with w s parts.0.0 parts.1) world.old world.new result }
-    ensures safe { Leaves of_descriptor_kept world.old world.new (Ok result) }
+    ensures goes { IfOk result (λ step. Initialises s (λ w. init_with w s parts.0.0 parts.1)
+        world.old world.new step) }
+    ensures safe { Leaves of_descriptor_kept world.old world.new result }
 {
     let (class, object) = parts;
     if object.0 == Fixed::None.node().0 {
-        let ended = set_super(
-            world,
-            s,
-            PySuper {
-                typ: class,
-                obj: None,
-            },
-        );
-        return Step::End(ended);
+        let parts = PySuper {
+            typ: class,
+            obj: None,
+        };
+        let ended = caught(set_super(world, s, parts))?;
+        return Ok(Step::End(ended));
     }
     let task = DescriptorTask::SuperCheck(class, object);
-    Step::Ask(
+    Ok(Step::Ask(
         Task::Descriptor(task),
         DescriptorKept::Starting(s, class, object),
-    )
+    ))
 }
 
 // It is set to this, if it is a `super`.
-fn set_super(world: &mut World, s: PyObjectRef, parts: PySuper) -> Ended
+fn set_super(world: &mut World, s: PyObjectRef, parts: PySuper) -> Result<Answer, Stop>
     requires object { Holds world.old (IsNode s) }
     requires parts { AllHold world.old (of_payload (payload.Super parts)) }
-    ensures goes { EndsAs (λ t w. with_super w s parts.typ.0 (bound_to parts)) world.old world.new result }
+    ensures goes { Ended result (EndsAs (λ t w. with_super w s parts.typ.0 (bound_to parts)) world.old world.new) }
     ensures grows { Grows world.old world.new }
-    ensures safe { AllHold world.new (of_ended result) }
+    ensures safe { Ended result (λ r. AllHold world.new (of_ended r)) }
 {
+    let parts = Boxed::new(world.alloc(), parts)?;
     match world.payload(s) {
         Payload::Super(_) => {
             world.set_payload(s, Payload::Super(parts));
             Ok(Answer::Done)
         }
-        _ => Err(Raised::new(Cause::SelfType)),
+        _ => Err(Stop::raise(Cause::SelfType)),
     }
 }
 
@@ -122,24 +133,22 @@ pub(crate) fn resume_init(
     class: PyTypeRef,
     object: PyObjectRef,
     answer: Result<Answer, Raised>,
-) -> Step<DescriptorKept>
+) -> Result<Step<DescriptorKept>, OutOfMemory>
     requires kept { AllHold world.old (of_descriptor_kept (DescriptorKept.Starting s class object)) }
     requires answer { AllHold world.old (of_ended answer) }
-    ensures goes { Resumes (DescriptorKept.Starting s class object) answer world.old world.new result }
-    ensures safe { Leaves of_descriptor_kept world.old world.new (Ok result) }
+    ensures goes { IfOk result (λ step. Resumes (DescriptorKept.Starting s class object) answer
+        world.old world.new step) }
+    ensures safe { Leaves of_descriptor_kept world.old world.new result }
 {
     match answer {
         Ok(Answer::Start(start)) => {
-            let ended = set_super(
-                world,
-                s,
-                PySuper {
-                    typ: class,
-                    obj: Some((object, start)),
-                },
-            );
-            Step::End(ended)
+            let parts = PySuper {
+                typ: class,
+                obj: Some((object, start)),
+            };
+            let ended = caught(set_super(world, s, parts))?;
+            Ok(Step::End(ended))
         }
-        other => Step::End(other),
+        other => Ok(Step::End(other)),
     }
 }

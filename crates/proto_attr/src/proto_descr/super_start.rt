@@ -1,6 +1,7 @@
 //! Where `super` starts to look, and what it is bound to.
 #![tactic(auto, unfolding(crate::specs::ProtoDescr::Say::descriptor_say, py_node::specs::BuiltIns::place_of))]
 
+ghost use Rattle.py_node.specs.Stops.{Ended};
 ghost use Rattle.proto_attr.specs.Below.{[], Option, IfOk, class_at, datum_at, ref, of_descriptor_task, of_ended, of_step, Leaves, Reading, ended_of, plain, AllHold, Grows, IsClass, IsNode, of_option, of_node_ref};
 ghost use Rattle.std.specs.Prelude.{◌≡◌, ◌∷◌};
 ghost use Rattle.py_node.specs.declared.task.DescriptorTask.TheVariants as descriptor;
@@ -8,11 +9,10 @@ ghost use Rattle.proto_attr.specs.ProtoDescr.Supers.{check_class, super_bound, s
 ghost use Rattle.proto_attr.specs.ProtoDescr.Rows.{Begins, EndsAs, Resumes, Starts, of_descriptor_kept, of_parts, super_asked};
 
 use crate::proto_descr::DescriptorKept;
-use crate::proto_descr::descriptor::Ended;
 use class_world::{Fixed, World};
 use py_node::{
-    Answer, AttributeTask, BuiltIn, Cause, DescriptorTask, Known, OutOfMemory, Payload,
-    PyObjectRef, PySuper, PyTypeRef, Raised, Step, Task,
+    Answer, AttributeTask, Boxed, BuiltIn, Cause, DescriptorTask, Known, OutOfMemory, Payload,
+    PyObjectRef, PySuper, PyTypeRef, Raised, Step, Stop, Task, caught,
 };
 
 /// The class of a `super` that is bound to nothing yet, and the object that it is to be bound to.
@@ -110,16 +110,19 @@ pub fn unbound_super(world: &World, m: PyObjectRef, o: Option<PyObjectRef>) -> O
     ensures holds { AllHold world.now (of_option of_parts result) }
 {
     match (world.payload(m), o) {
-        (Payload::Super(parts), Some(object)) => match parts.obj {
-            Some(_) => None,
-            None => {
-                if object.0 == Fixed::None.node().0 {
-                    None
-                } else {
-                    Some((parts.typ, object))
+        (Payload::Super(parts), Some(object)) => {
+            let parts = parts.get();
+            match parts.obj {
+                Some(_) => None,
+                None => {
+                    if object.0 == Fixed::None.node().0 {
+                        None
+                    } else {
+                        Some((parts.typ, object))
+                    }
                 }
             }
-        },
+        }
         _ => None,
     }
 }
@@ -130,13 +133,13 @@ pub fn bind_super(
     class: PyTypeRef,
     object: PyObjectRef,
     answer: Result<Answer, Raised>,
-) -> Result<Ended, OutOfMemory>
+) -> Result<Answer, Stop>
     requires kept { AllHold world.old (IsClass class.0 ∷ IsNode object ∷ []) }
     requires answer { AllHold world.old (of_ended answer) }
-    ensures goes { IfOk result (λ r. EndsAs (λ t w. super_bound w (ref class.0) object (ended_of answer))
-        world.old world.new r) }
+    ensures goes { Ended result (EndsAs (λ t w. super_bound w (ref class.0) object (ended_of answer))
+        world.old world.new) }
     ensures grows { Grows world.old world.new }
-    ensures safe { IfOk result (λ r. AllHold world.new (of_ended r)) }
+    ensures safe { Ended result (λ r. AllHold world.new (of_ended r)) }
 {
     match answer {
         Ok(Answer::Start(start)) => {
@@ -145,10 +148,11 @@ pub fn bind_super(
                 obj: Some((object, start)),
             };
             let class = world.built_in(BuiltIn::Super);
+            let parts = Boxed::new(world.alloc(), parts)?;
             let node = world.make_node(class, Payload::Super(parts))?;
-            Ok(Ok(Answer::Value(node)))
+            Ok(Answer::Value(node))
         }
-        other => Ok(other),
+        other => Ok(other?),
     }
 }
 
@@ -165,6 +169,6 @@ pub(crate) fn resume_binding(
         world.old world.new step) }
     ensures safe { Leaves of_descriptor_kept world.old world.new result }
 {
-    let ended = bind_super(world, class, object, answer)?;
+    let ended = caught(bind_super(world, class, object, answer))?;
     Ok(Step::End(ended))
 }

@@ -44,7 +44,7 @@ pub fn bind_getset(
     ensures safe { Leaves nothing_held world.now world.now result }
 {
     match (world.payload(m), o) {
-        (Payload::GetSet(parts), Some(object)) => match parts.getter {
+        (Payload::GetSet(parts), Some(object)) => match parts.get().getter {
             None => Ok(Step::raise(Cause::NoGetter)),
             Some(getter) => {
                 let alloc = world.alloc();

@@ -7,8 +7,8 @@ ghost use Rattle.proto_call.specs.ClassMake.Rows.{Becomes};
 
 use class_world::{Fixed, World};
 use py_node::{
-    BuiltIn, GetSet, Known, NativeEntry, OutOfMemory, Payload, Property, PyAttributes, PyObjectRef,
-    PyStrInterned, PyTypeRef,
+    Boxed, BuiltIn, GetSet, Known, NativeEntry, OutOfMemory, Payload, Property, PyAttributes,
+    PyObjectRef, PyStrInterned, PyTypeRef,
 };
 
 /// The attributes of a class of this name: class methods where its hooks are functions, a qualified name, and no hash
@@ -164,6 +164,7 @@ fn give_dict(world: &mut World, attrs: PyAttributes) -> Result<PyAttributes, Out
         setter: Some(NativeEntry::Setter(Property::InstanceDict)),
     };
     let class = world.built_in(BuiltIn::GetSetDescriptor);
+    let dict = Boxed::new(world.alloc(), dict)?;
     let more = give(world, name, class, Payload::GetSet(dict), attrs)?;
     Ok(more)
 }

@@ -12,7 +12,7 @@ use crate::class_make::namespace::{Entries, dict_at, text_at, tuple_at};
 use class_world::World;
 use py_node::task::{Args, Keywords};
 use py_node::{
-    Answer, BuiltIn, Cause, Kind, OutOfMemory, PyObjectRef, PyStrInterned, PyTypeRef, Raised, Step,
+    Answer, BuiltIn, Cause, FuncArgs, Kind, OutOfMemory, PyObjectRef, PyTypeRef, Raised, Step,
 };
 use row_kit::questions::has_null;
 
@@ -44,17 +44,20 @@ pub(crate) fn make_class(
     ensures goes { IfOk result (λ step. Begins (class_task.MakeClass meta args kw) world.old world.new step) }
     ensures safe { Leaves of_class_kept world.old world.new result }
 {
-    let one = one_of(&args, &kw);
+    let one = one_of(FuncArgs {
+        args: &args,
+        kw: &kw,
+    });
     let call = Call { args, kw };
     by_one(world, meta, one, call)
 }
 
 // The one argument, without keywords.
-fn one_of(args: &[PyObjectRef], kw: &[(PyStrInterned, PyObjectRef)]) -> Option<PyObjectRef>
-    ensures { result ≡ one_of args.now kw.now }
+fn one_of(call: FuncArgs<'_>) -> Option<PyObjectRef>
+    ensures { result ≡ one_of call.entry.args.now call.entry.kw.now }
 {
-    match args {
-        [only] if kw.is_empty() => Some(*only),
+    match call.args {
+        [only] if call.kw.is_empty() => Some(*only),
         _ => None,
     }
 }

@@ -11,8 +11,8 @@ use class_world::takes::{three, two};
 use class_world::{Fixed, World};
 use py_node::task::{Args, Keywords};
 use py_node::{
-    Answer, AttributeTask, Cause, OutOfMemory, PyObjectRef, PySetterValue, PyTypeRef, Raised, Step,
-    Task,
+    Answer, AttributeTask, Cause, FuncArgs, OutOfMemory, PyObjectRef, PySetterValue, PyTypeRef,
+    Raised, Step, Task, caught,
 };
 
 /// A class's attribute by its name, as classes read it.
@@ -30,9 +30,12 @@ pub(crate) fn type_get_attribute(
         Err(raised) => return Ok(Step::End(Err(raised))),
         Ok(class) => class,
     };
-    match two(&args, &kw) {
+    match two(FuncArgs {
+        args: &args,
+        kw: &kw,
+    }) {
         Err(raised) => Ok(Step::End(Err(raised))),
-        Ok((_, name)) => match world.name_in(name)? {
+        Ok((_, name)) => match caught(world.name_in(name))? {
             Err(raised) => Ok(Step::End(Err(raised))),
             Ok(name) => Ok(asked(AttributeTask::TypeGet(class, name))),
         },
@@ -54,9 +57,12 @@ pub(crate) fn type_set_attr(
         Err(raised) => return Ok(Step::End(Err(raised))),
         Ok(class) => class,
     };
-    match three(&args, &kw) {
+    match three(FuncArgs {
+        args: &args,
+        kw: &kw,
+    }) {
         Err(raised) => Ok(Step::End(Err(raised))),
-        Ok((_, name, value)) => match world.name_in(name)? {
+        Ok((_, name, value)) => match caught(world.name_in(name))? {
             Err(raised) => Ok(Step::End(Err(raised))),
             Ok(name) => {
                 let value = PySetterValue::Assign(value);
@@ -81,9 +87,12 @@ pub(crate) fn type_del_attr(
         Err(raised) => return Ok(Step::End(Err(raised))),
         Ok(class) => class,
     };
-    match two(&args, &kw) {
+    match two(FuncArgs {
+        args: &args,
+        kw: &kw,
+    }) {
         Err(raised) => Ok(Step::End(Err(raised))),
-        Ok((_, name)) => match world.name_in(name)? {
+        Ok((_, name)) => match caught(world.name_in(name))? {
             Err(raised) => Ok(Step::End(Err(raised))),
             Ok(name) => {
                 let task = AttributeTask::TypeSet(class, name, PySetterValue::Delete);

@@ -12,7 +12,8 @@ use class_world::World;
 use class_world::args::copy_args;
 use py_node::task::{Args, Keywords};
 use py_node::{
-    BuiltIn, CallTask, Cause, ClassTask, OutOfMemory, PyTypeRef, Step, Task, TypeNative,
+    BuiltIn, CallTask, Cause, ClassTask, FuncArgs, OutOfMemory, PyTypeRef, Step, Task, TypeNative,
+    caught,
 };
 
 /// A native of `type`.
@@ -33,7 +34,14 @@ pub(crate) fn type_native(
         TypeNative::DelAttr => type_del_attr(world, args, kw),
         TypeNative::Call => type_call(world, args, kw),
         native => {
-            let answer = crate::class_make::type_natives::type_native(world, native, &args, &kw)?;
+            let answer = caught(crate::class_make::type_natives::type_native(
+                world,
+                native,
+                FuncArgs {
+                    args: &args,
+                    kw: &kw,
+                },
+            ))?;
             Ok(Step::End(answer))
         }
     }

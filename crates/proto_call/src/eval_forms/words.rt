@@ -14,7 +14,7 @@ use class_world::World;
 use class_world::args::two_of;
 use py_node::{
     Answer, AttributeTask, Cause, ObjectTask, OutOfMemory, Payload, PyObjectRef, SlotId, Step,
-    Task, Word,
+    Task, Word, caught,
 };
 
 // What the word says of the values of the operands.
@@ -133,7 +133,7 @@ fn has_attr_step(world: &mut World, values: &[PyObjectRef]) -> Result<Step<EvalK
 {
     match two_of(values) {
         None => Ok(Step::raise(Cause::ArgCount)),
-        Some((object, text)) => match world.name_in(text)? {
+        Some((object, text)) => match caught(world.name_in(text))? {
             Err(raised) => Ok(Step::End(Err(raised))),
             Ok(name) => Ok(Step::Ask(
                 Task::Attribute(AttributeTask::HasAttr(object, name)),

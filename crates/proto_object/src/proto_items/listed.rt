@@ -11,7 +11,7 @@ use class_world::World;
 use class_world::limits::is_within_limit;
 use py_node::protocol::ProtocolTask;
 use py_node::task::Args;
-use py_node::{Answer, BuiltIn, Cause, OutOfMemory, PyObjectRef, Raised, Step, Task};
+use py_node::{Answer, BuiltIn, Cause, OutOfMemory, PyObjectRef, Raised, Step, Task, caught};
 use row_kit::give_containers::new_list;
 use row_kit::proto_base::is_exactly;
 
@@ -67,7 +67,7 @@ pub(crate) fn gather(
     match item_of(answer) {
         Ok(Some(item)) => one_more(world, iterator, items, item),
         Ok(None) => {
-            let ended = new_list(world, items)?;
+            let ended = caught(new_list(world, items))?;
             Ok(Step::End(ended))
         }
         Err(other) => Ok(Step::End(other)),

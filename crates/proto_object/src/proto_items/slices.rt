@@ -11,7 +11,7 @@ use crate::proto_items::ItemsKept;
 use crate::proto_items::items::deleted;
 use class_world::World;
 use py_node::payload::PySlice;
-use py_node::{BuiltIn, Cause, Known, OutOfMemory, Payload, PyObjectRef, SlotId, Step};
+use py_node::{Boxed, BuiltIn, Cause, Known, OutOfMemory, Payload, PyObjectRef, SlotId, Step};
 use row_kit::proto_base::entered;
 
 /// The part of a sequence from a number to another one is the item of a slice of both.
@@ -96,6 +96,7 @@ fn new_slice(world: &mut World, start: i64, stop: i64) -> Result<PyObjectRef, Ou
         stop: Some(last),
         step: None,
     };
+    let bounds = Boxed::new(world.alloc(), bounds)?;
     let slice = world.make_node(slices, Payload::Slice(bounds))?;
     Ok(slice)
 }

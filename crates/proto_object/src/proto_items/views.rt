@@ -9,7 +9,9 @@ ghost use Rattle.proto_object.specs.ProtoItems.Rows.{Begins, Resumes, of_items_k
 
 use crate::proto_items::ItemsKept;
 use class_world::World;
-use py_node::{AttributeTask, BuiltIn, Known, OutOfMemory, PyMethod, PyObjectRef, Step, Task};
+use py_node::{
+    AttributeTask, BuiltIn, Known, OutOfMemory, PyMethod, PyObjectRef, Step, Task, caught,
+};
 use row_kit::entries::{keys_of, values_of};
 use row_kit::give_containers::{new_list, new_pairs};
 use row_kit::proto_base::is_exactly;
@@ -25,7 +27,7 @@ pub(crate) fn begin_keys(world: &mut World, o: PyObjectRef) -> Result<Step<Items
         return Ok(Step::Ask(load(world, o, Known::Keys), ItemsKept::Loaded));
     }
     let keys = keys_of(world.alloc(), entries(world, o))?;
-    let ended = new_list(world, keys)?;
+    let ended = caught(new_list(world, keys))?;
     Ok(Step::End(ended))
 }
 
@@ -42,7 +44,7 @@ pub(crate) fn begin_values(
         return Ok(Step::Ask(load(world, o, Known::Values), ItemsKept::Loaded));
     }
     let values = values_of(world.alloc(), entries(world, o))?;
-    let ended = new_list(world, values)?;
+    let ended = caught(new_list(world, values))?;
     Ok(Step::End(ended))
 }
 
@@ -55,7 +57,7 @@ pub(crate) fn begin_items(world: &mut World, o: PyObjectRef) -> Result<Step<Item
     if !is_exactly(world, o, BuiltIn::Dict) {
         return Ok(Step::Ask(load(world, o, Known::Items), ItemsKept::Loaded));
     }
-    let ended = new_pairs(world, o)?;
+    let ended = caught(new_pairs(world, o))?;
     Ok(Step::End(ended))
 }
 

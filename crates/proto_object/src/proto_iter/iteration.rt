@@ -11,7 +11,9 @@ use class_world::World;
 use class_world::args::copy_args;
 use class_world::limits::is_within_limit;
 use py_node::protocol::ProtocolTask;
-use py_node::{Answer, Cause, Kind, Known, OutOfMemory, PyObjectRef, Raised, SlotId, Step, Task};
+use py_node::{
+    Answer, Cause, Kind, Known, OutOfMemory, PyObjectRef, Raised, SlotId, Step, Task, caught,
+};
 use row_kit::give::new_iterator;
 use row_kit::proto_base::{entered, is_plain};
 use row_kit::take_containers::items;
@@ -31,7 +33,7 @@ pub(crate) fn get_iter(world: &mut World, o: PyObjectRef) -> Result<Step<IterKep
             if world.slot(o, SlotId::SeqItem).is_none() {
                 return Ok(Step::raise(Cause::NotIterable));
             }
-            let ended = new_iterator(world, o)?;
+            let ended = caught(new_iterator(world, o))?;
             Ok(Step::End(ended))
         }
     }

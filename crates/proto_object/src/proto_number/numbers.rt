@@ -14,7 +14,9 @@ use crate::proto_number::asked::{method, native_of, special};
 use crate::proto_number::texts::text_number;
 use class_world::World;
 use py_node::protocol::ProtocolTask;
-use py_node::{Answer, Cause, Known, OutOfMemory, PyObjectRef, SlotEntry, SlotId, Step, Task};
+use py_node::{
+    Answer, Cause, Known, OutOfMemory, PyObjectRef, SlotEntry, SlotId, Step, Task, caught,
+};
 use row_kit::int_values::{as_int, is_int};
 
 /// An index: a number is one, of another class than `int` as a new one. Others have a special method for it.
@@ -28,7 +30,7 @@ pub(crate) fn begin_index(
 {
     match world.number(o) {
         Some(z) => {
-            let ended = as_int(world, o, z)?;
+            let ended = caught(as_int(world, o, z))?;
             Ok(Step::End(ended))
         }
         None => match world.slot(o, SlotId::Index) {
@@ -113,7 +115,7 @@ fn truncated_by(world: &mut World, o: PyObjectRef) -> Result<Step<NumberKept>, O
             Ok(Step::Ask(task, NumberKept::AfterTruncate))
         }
         None => {
-            let ended = text_number(world, o)?;
+            let ended = caught(text_number(world, o))?;
             Ok(Step::End(ended))
         }
     }

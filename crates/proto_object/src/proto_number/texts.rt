@@ -1,20 +1,18 @@
 //! The whole number that a text spells.
 
-ghost use Rattle.proto_object.specs.Below.{IfOk, is_ascii_digit, list_all, datum_at, EndsAs, LeavesEnd, Holds, IsNode};
+ghost use Rattle.py_node.specs.Stops.{Ended};
+ghost use Rattle.proto_object.specs.Below.{is_ascii_digit, list_all, datum_at, EndsAs, LeavesEnd, Holds, IsNode};
 ghost use Rattle.std.specs.Prelude.{◌≡◌};
 ghost use Rattle.proto_object.specs.ProtoNumber.Numbers.{is_numeral, spelled, text_number, without_sign};
 
 use class_world::World;
-use py_node::{Answer, Cause, OutOfMemory, Payload, PyObjectRef, Raised};
+use py_node::{Answer, Cause, Payload, PyObjectRef, Raised, Stop};
 use row_kit::give::new_int;
 
 /// The whole number that a text spells, as a new one. Other objects spell none.
-pub(crate) fn text_number(
-    world: &mut World,
-    o: PyObjectRef,
-) -> Result<Result<Answer, Raised>, OutOfMemory>
+pub(crate) fn text_number(world: &mut World, o: PyObjectRef) -> Result<Answer, Stop>
     requires { Holds world.old (IsNode o) }
-    ensures ends { IfOk result (λ r. EndsAs (λ t u. text_number u (datum_at u o)) world.old world.new r) }
+    ensures ends { Ended result (EndsAs (λ t u. text_number u (datum_at u o)) world.old world.new) }
     ensures safe { LeavesEnd world.old world.new result }
 {
     match world.payload(o) {
@@ -22,7 +20,7 @@ pub(crate) fn text_number(
             let number = spelled(text.as_str());
             new_int(world, number)
         }
-        _ => Ok(Err(Raised::new(Cause::NotInt))),
+        _ => Err(Stop::raise(Cause::NotInt)),
     }
 }
 

@@ -1,8 +1,9 @@
 //! The natives that reckon with two numbers.
 
-ghost use Rattle.proto_ops.specs.Below.{ℤ, IfOk, IfErr, Said, Ends, of_ended, Reading, bindings, ended_of, plain, AllHold, AreNodes, Holds, IsNode, EndsAs, LeavesEnd};
+ghost use Rattle.py_node.specs.Stops.{Ended};
+ghost use Rattle.proto_ops.specs.Below.{ℤ, IfOk, IfErr, Said, Ends, of_ended, Reading, bindings, ended_of, plain, AllHold, AreNodes, Holds, EndsAs, LeavesEnd};
 ghost use Rattle.std.specs.Prelude.{◌≡◌};
-ghost use Rattle.proto_ops.specs.NativeNumbers.Say.{arithmetic_by, arithmetic_say, with_operands, with_powers, divided, pair_made};
+ghost use Rattle.proto_ops.specs.NativeNumbers.Say.{arithmetic_by, arithmetic_say, with_operands, with_powers, divided};
 
 use crate::native_numbers::reckon::{
     difference, floor_remainder, power, product, quotient, remainder,
@@ -10,9 +11,7 @@ use crate::native_numbers::reckon::{
 use class_world::args::both;
 use class_world::takes::three;
 use class_world::{Fixed, World};
-use py_node::{
-    Answer, ArithmeticNative, BuiltIn, OutOfMemory, Payload, PyObjectRef, PyStrInterned, Raised,
-};
+use py_node::{Answer, ArithmeticNative, BuiltIn, FuncArgs, Payload, Raised, Stop};
 use row_kit::give::new_int;
 use row_kit::take::{numbers, numbers_of};
 
@@ -20,16 +19,15 @@ use row_kit::take::{numbers, numbers_of};
 pub fn arithmetic_native(
     world: &mut World,
     native: ArithmeticNative,
-    args: &[PyObjectRef],
-    kw: &[(PyStrInterned, PyObjectRef)],
-) -> Result<Result<Answer, Raised>, OutOfMemory>
-    requires { Holds world.old (AreNodes args.now) }
-    ensures ends { IfOk result (λ r. EndsAs (λ t u. arithmetic_say u native args.now (bindings t kw.now))
-        world.old world.new r) }
+    call: FuncArgs<'_>,
+) -> Result<Answer, Stop>
+    requires { Holds world.old (AreNodes call.args.now) }
+    ensures ends { Ended result (EndsAs (λ t u. arithmetic_say u native call.entry.args.now (bindings t call.entry.kw.now))
+        world.old world.new) }
     ensures safe { LeavesEnd world.old world.new result }
 {
-    match operands(world, native, args, kw) {
-        Err(answer) => Ok(answer),
+    match operands(world, native, call) {
+        Err(answer) => Ok(answer?),
         Ok((x, y)) => arithmetic_by(world, native, x, y),
     }
 }
@@ -38,41 +36,36 @@ pub fn arithmetic_native(
 fn operands(
     world: &World,
     native: ArithmeticNative,
-    args: &[PyObjectRef],
-    kw: &[(PyStrInterned, PyObjectRef)],
+    call: FuncArgs<'_>,
 ) -> Result<(i128, i128), Result<Answer, Raised>>
-    requires { Holds world.now (AreNodes args.now) }
+    requires { Holds world.now (AreNodes call.args.now) }
     ensures given { IfOk result (λ p. (t : Reading) (go : ℤ → ℤ → Said) →
-        with_operands (plain t world.now) native args.now (bindings t kw.now) go ≡ go p.0 p.1) }
+        with_operands (plain t world.now) native call.entry.args.now (bindings t call.entry.kw.now) go ≡ go p.0 p.1) }
     ensures ended { IfErr result (λ r. (t : Reading) (go : ℤ → ℤ → Said) →
-        with_operands (plain t world.now) native args.now (bindings t kw.now) go ≡
+        with_operands (plain t world.now) native call.entry.args.now (bindings t call.entry.kw.now) go ≡
         Ends (plain t world.now) (ended_of r)) }
     ensures holds { IfErr result (λ r. AllHold world.now (of_ended r)) }
 {
     match native {
-        ArithmeticNative::Power => powers(world, args, kw),
-        ArithmeticNative::RightPower => powers(world, args, kw),
-        _ => numbers(world, args, kw),
+        ArithmeticNative::Power => powers(world, call),
+        ArithmeticNative::RightPower => powers(world, call),
+        _ => numbers(world, call),
     }
 }
 
 // The two numbers of a power. There may be a third operand, where the native is for None alone.
-fn powers(
-    world: &World,
-    args: &[PyObjectRef],
-    kw: &[(PyStrInterned, PyObjectRef)],
-) -> Result<(i128, i128), Result<Answer, Raised>>
-    requires { Holds world.now (AreNodes args.now) }
+fn powers(world: &World, call: FuncArgs<'_>) -> Result<(i128, i128), Result<Answer, Raised>>
+    requires { Holds world.now (AreNodes call.args.now) }
     ensures given { IfOk result (λ p. (t : Reading) (go : ℤ → ℤ → Said) →
-        with_powers (plain t world.now) args.now (bindings t kw.now) go ≡ go p.0 p.1) }
+        with_powers (plain t world.now) call.entry.args.now (bindings t call.entry.kw.now) go ≡ go p.0 p.1) }
     ensures ended { IfErr result (λ r. (t : Reading) (go : ℤ → ℤ → Said) →
-        with_powers (plain t world.now) args.now (bindings t kw.now) go ≡ Ends (plain t world.now) (ended_of r)) }
+        with_powers (plain t world.now) call.entry.args.now (bindings t call.entry.kw.now) go ≡ Ends (plain t world.now) (ended_of r)) }
     ensures holds { IfErr result (λ r. AllHold world.now (of_ended r)) }
 {
-    if args.len() != 3 {
-        return numbers(world, args, kw);
+    if call.args.len() != 3 {
+        return numbers(world, call);
     }
-    match three(args, kw) {
+    match three(call) {
         Err(raised) => Err(Err(raised)),
         Ok((a, b, c)) => match numbers_of(world, a, b) {
             Err(answer) => Err(answer),
@@ -93,8 +86,8 @@ fn arithmetic_by(
     native: ArithmeticNative,
     x: i128,
     y: i128,
-) -> Result<Result<Answer, Raised>, OutOfMemory>
-    ensures ends { IfOk result (λ r. EndsAs (λ t u. arithmetic_by u native x y) world.old world.new r) }
+) -> Result<Answer, Stop>
+    ensures ends { Ended result (EndsAs (λ t u. arithmetic_by u native x y) world.old world.new) }
     ensures safe { LeavesEnd world.old world.new result }
 {
     match native {
@@ -114,23 +107,17 @@ fn arithmetic_by(
 }
 
 // The tuple of a quotient and what it leaves, after these two.
-fn divided(world: &mut World, x: i128, y: i128) -> Result<Result<Answer, Raised>, OutOfMemory>
-    ensures ends { IfOk result (λ r. EndsAs (λ t u. divided u x y) world.old world.new r) }
+fn divided(world: &mut World, x: i128, y: i128) -> Result<Answer, Stop>
+    ensures ends { Ended result (EndsAs (λ t u. divided u x y) world.old world.new) }
     ensures safe { LeavesEnd world.old world.new result }
 {
-    let q = match quotient(x, y) {
-        Err(raised) => return Ok(Err(raised)),
-        Ok(q) => q,
-    };
-    let r = match remainder(x, y) {
-        Err(raised) => return Ok(Err(raised)),
-        Ok(r) => r,
-    };
+    let q = quotient(x, y)?;
+    let r = remainder(x, y)?;
     let alloc = world.alloc();
     let class = world.built_in(BuiltIn::Int);
     let first = world.make_node(class, Payload::Number(q))?;
     let second = world.make_node(class, Payload::Number(r))?;
     let items = both(alloc, first, second)?;
     let node = world.make_node(world.built_in(BuiltIn::Tuple), Payload::Tuple(items))?;
-    Ok(Ok(Answer::Value(node)))
+    Ok(Answer::Value(node))
 }

@@ -1,33 +1,27 @@
 //! The natives on the bits of two numbers, or on two truth values.
 
-ghost use Rattle.proto_ops.specs.Below.{IfOk, bindings, AreNodes, Holds, IsNode, EndsAs, LeavesEnd, truth_of};
+ghost use Rattle.py_node.specs.Stops.{Ended};
+ghost use Rattle.proto_ops.specs.Below.{bindings, AreNodes, Holds, IsNode, EndsAs, LeavesEnd, truth_of};
 ghost use Rattle.std.specs.Prelude.{◌≡◌};
 ghost use Rattle.proto_ops.specs.NativeNumbers.Say.{bits_by, bits_of, bits_say, truth_by};
 
 use crate::native_numbers::reckon::{left_shifted, right_shifted};
 use class_world::World;
 use class_world::takes::two;
-use py_node::{Answer, BitNative, OutOfMemory, PyObjectRef, PyStrInterned, Raised};
+use py_node::{Answer, BitNative, FuncArgs, PyObjectRef, Raised, Stop};
 use row_kit::give::new_int;
 use row_kit::int_values::truth_of;
 use row_kit::take::numbers_of;
 
 /// A native on the bits of two numbers, or on two truth values.
-pub fn bits_native(
-    world: &mut World,
-    native: BitNative,
-    args: &[PyObjectRef],
-    kw: &[(PyStrInterned, PyObjectRef)],
-) -> Result<Result<Answer, Raised>, OutOfMemory>
-    requires { Holds world.old (AreNodes args.now) }
-    ensures ends { IfOk result (λ r. EndsAs (λ t u. bits_say u native args.now (bindings t kw.now))
-        world.old world.new r) }
+pub fn bits_native(world: &mut World, native: BitNative, call: FuncArgs<'_>) -> Result<Answer, Stop>
+    requires { Holds world.old (AreNodes call.args.now) }
+    ensures ends { Ended result (EndsAs (λ t u. bits_say u native call.entry.args.now (bindings t call.entry.kw.now))
+        world.old world.new) }
     ensures safe { LeavesEnd world.old world.new result }
 {
-    match two(args, kw) {
-        Err(raised) => Ok(Err(raised)),
-        Ok((a, b)) => bits_of(world, native, a, b),
-    }
+    let (a, b) = two(call)?;
+    bits_of(world, native, a, b)
 }
 
 // What a native does with two objects.
@@ -36,16 +30,16 @@ fn bits_of(
     native: BitNative,
     a: PyObjectRef,
     b: PyObjectRef,
-) -> Result<Result<Answer, Raised>, OutOfMemory>
+) -> Result<Answer, Stop>
     requires a { Holds world.old (IsNode a) }
     requires b { Holds world.old (IsNode b) }
-    ensures ends { IfOk result (λ r. EndsAs (λ t u. bits_of u native a b) world.old world.new r) }
+    ensures ends { Ended result (EndsAs (λ t u. bits_of u native a b) world.old world.new) }
     ensures safe { LeavesEnd world.old world.new result }
 {
     match truth_by(native, truth_of(a), truth_of(b)) {
-        Some(holds) => Ok(Ok(Answer::Value(world.truth(holds)))),
+        Some(holds) => Ok(Answer::Value(world.truth(holds))),
         None => match numbers_of(world, a, b) {
-            Err(answer) => Ok(answer),
+            Err(answer) => Ok(answer?),
             Ok((x, y)) => new_int(world, bits_by(native, x, y)),
         },
     }

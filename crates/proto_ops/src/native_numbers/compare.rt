@@ -1,28 +1,27 @@
 //! The comparisons of numbers, by name.
 
-ghost use Rattle.proto_ops.specs.Below.{IfOk, Reading, bindings, of_ended, AllHold, AreNodes, Holds, EndsAs, LeavesEnd};
+ghost use Rattle.proto_ops.specs.Below.{bindings, of_ended, AllHold, AreNodes, Holds, EndsAs};
 ghost use Rattle.std.specs.Prelude.{◌≡◌};
 ghost use Rattle.proto_ops.specs.NativeNumbers.Say.{compare_say, order_by};
 
 use class_world::{Fixed, World};
-use py_node::{Answer, Cause, CompareNative, PyObjectRef, PyStrInterned, Raised};
+use py_node::{Answer, Cause, CompareNative, FuncArgs, Raised};
 use row_kit::take::number_and;
 
 /// A comparison of numbers, by name. Where the other object holds none, it answers NotImplemented.
 pub fn compare_native(
     world: &World,
     native: CompareNative,
-    args: &[PyObjectRef],
-    kw: &[(PyStrInterned, PyObjectRef)],
+    call: FuncArgs<'_>,
 ) -> Result<Answer, Raised>
-    requires { Holds world.now (AreNodes args.now) }
-    ensures ends { EndsAs (λ t u. compare_say u native args.now (bindings t kw.now)) world.now world.now result }
+    requires { Holds world.now (AreNodes call.args.now) }
+    ensures ends { EndsAs (λ t u. compare_say u native call.entry.args.now (bindings t call.entry.kw.now)) world.now world.now result }
     ensures holds { AllHold world.now (of_ended result) }
 {
     if native == CompareNative::All {
         return Err(Raised::new(Cause::SelfType));
     }
-    let (x, other) = number_and(world, args, kw)?;
+    let (x, other) = number_and(world, call)?;
     match world.number(other) {
         Some(y) => Ok(Answer::Value(world.truth(order_by(native, x, y)))),
         None => Ok(Answer::Value(world.fixed(Fixed::NotImplemented))),

@@ -1,6 +1,7 @@
 //! Repetition by name.
 
-ghost use Rattle.proto_ops.specs.Below.{[], Err, IfErr, IfOk, IfSome, Ok, option_map, Asks, Bindings, DoIndex, Ends, ReadObjects, ToProtocol, with_two, datum_at, Leaves, Reading, plain, AllHold, AreNodes, Holds, IsNode, sequence_for};
+ghost use Rattle.py_node.specs.Stops.{IfRaised};
+ghost use Rattle.proto_ops.specs.Below.{[], Err, IfOk, IfSome, Ok, option_map, Asks, Bindings, DoIndex, Ends, ReadObjects, ToProtocol, with_two, datum_at, Leaves, Reading, plain, AllHold, AreNodes, Holds, IsNode, sequence_for};
 ghost use Rattle.std.specs.Prelude.{◌≡◌, ◌∷◌};
 ghost use Rattle.py_node.specs.declared.task.Answer.TheVariants as answer;
 ghost use Rattle.proto_ops.specs.NativeRepeats.Rows.{Resumes, of_repeat_kept};
@@ -12,7 +13,7 @@ use crate::native_repeats::kind::{Repeated, entry_of};
 use crate::native_repeats::repeated::repeat_stood;
 use class_world::World;
 use py_node::task::Args;
-use py_node::{Answer, Cause, OutOfMemory, Payload, PyObjectRef, Raised, Step};
+use py_node::{Answer, Cause, OutOfMemory, Payload, PyObjectRef, Step, Stop, caught};
 
 /// The items of the first argument where it is a list, and none where it is a text or a tuple that a native repeats. Else
 /// it is refused.
@@ -20,24 +21,20 @@ use py_node::{Answer, Cause, OutOfMemory, Payload, PyObjectRef, Raised, Step};
 /// # Errors
 ///
 /// `ArgCount` where there is no argument, and `SelfType` where the first is of another kind.
-pub(crate) fn standing(
-    world: &World,
-    kind: Repeated,
-    args: &[PyObjectRef],
-) -> Result<Result<Args, Raised>, OutOfMemory>
+pub(crate) fn standing(world: &World, kind: Repeated, args: &[PyObjectRef]) -> Result<Args, Stop>
     requires { Holds world.now (AreNodes args.now) }
-    ensures given { IfOk result (λ r. IfOk r (λ rs. (t : Reading) (kw : Bindings) →
+    ensures given { IfOk result (λ rs. (t : Reading) (kw : Bindings) →
         repeat_by_name (plain t world.now) (entry_of kind) args.now kw ≡ with_two (plain t world.now) args.now kw
-        (λ a k. Asks (plain t world.now) (ReadObjects (a ∷ rs.items) ∷ []) (ToProtocol (DoIndex k))))) }
-    ensures refused { IfOk result (λ r. IfErr r (λ x. (t : Reading) (kw : Bindings) →
-        repeat_by_name (plain t world.now) (entry_of kind) args.now kw ≡ Ends (plain t world.now) (Err x))) }
-    ensures items { IfOk result (λ r. IfOk r (λ rs. Holds world.now (AreNodes rs.items))) }
+        (λ a k. Asks (plain t world.now) (ReadObjects (a ∷ rs.items) ∷ []) (ToProtocol (DoIndex k)))) }
+    ensures refused { IfRaised result (λ x. (t : Reading) (kw : Bindings) →
+        repeat_by_name (plain t world.now) (entry_of kind) args.now kw ≡ Ends (plain t world.now) (Err x)) }
+    ensures items { IfOk result (λ rs. Holds world.now (AreNodes rs.items)) }
 {
     match args {
-        [] => Ok(Err(Raised::new(Cause::ArgCount))),
+        [] => Err(Stop::raise(Cause::ArgCount)),
         [object, ..] => match items_of(world, kind, *object)? {
-            None => Ok(Err(Raised::new(Cause::SelfType))),
-            Some(items) => Ok(Ok(items)),
+            None => Err(Stop::raise(Cause::SelfType)),
+            Some(items) => Ok(items),
         },
     }
 }
@@ -79,7 +76,13 @@ pub(crate) fn given(
     match count_in(world.number(index)) {
         Err(raised) => Ok(Step::End(Err(raised))),
         Ok(n) => {
-            let ended = repeat_stood(world, entry_of(kept.kind), kept.object, &kept.items, n)?;
+            let ended = caught(repeat_stood(
+                world,
+                entry_of(kept.kind),
+                kept.object,
+                &kept.items,
+                n,
+            ))?;
             Ok(Step::End(ended))
         }
     }

@@ -1,6 +1,7 @@
 //! What a repeated text, tuple or list is.
 
-ghost use Rattle.proto_ops.specs.Below.{Err, IfErr, IfOk, List, string_bytes, repeat, PyObjectRef as Object, Text, Ends, PlainWorld, Said, Held, EndsAs, LeavesEnd, AllHold, AreNodes, Holding, Holds, IsNode, list_repeated, native_repeat, with_times};
+ghost use Rattle.py_node.specs.Stops.{Ended, IfRaised};
+ghost use Rattle.proto_ops.specs.Below.{Err, IfOk, List, string_bytes, repeat, PyObjectRef as Object, Text, Ends, PlainWorld, Said, Held, EndsAs, LeavesEnd, AllHold, AreNodes, Holding, Holds, IsNode, list_repeated, native_repeat, with_times};
 ghost use Rattle.std.specs.Prelude.{◌≡◌};
 ghost use Rattle.py_node.specs.declared.built_in.BuiltIn.TheVariants.{List as ListClass};
 ghost use Rattle.py_node.specs.declared.entry.NativeEntry.TheVariants as entry;
@@ -11,7 +12,8 @@ use crate::native_repeats::count::times_within;
 use class_world::World;
 use py_node::task::Args;
 use py_node::{
-    Answer, Cause, ListNative, NativeEntry, OutOfMemory, Payload, PyObjectRef, Raised, StrNative,
+    Answer, Cause, ListNative, NativeEntry, OutOfMemory, Payload, PyObjectRef, Raised, Stop,
+    StrNative,
 };
 use row_kit::give::new_text;
 use row_kit::give_containers::{new_list, new_tuple};
@@ -24,9 +26,9 @@ pub fn native_repeat(
     entry: NativeEntry,
     object: PyObjectRef,
     n: i64,
-) -> Result<Result<Answer, Raised>, OutOfMemory>
+) -> Result<Answer, Stop>
     requires { Holds world.old (IsNode object) }
-    ensures ends { IfOk result (λ r. EndsAs (λ t u. native_repeat u entry object n) world.old world.new r) }
+    ensures ends { Ended result (EndsAs (λ t u. native_repeat u entry object n) world.old world.new) }
     ensures safe { LeavesEnd world.old world.new result }
 {
     match entry {
@@ -36,16 +38,16 @@ pub fn native_repeat(
                 let all = repeat_items(world.alloc(), items, n)?;
                 end_with(world, entry, object, all)
             }
-            _ => Ok(Err(Raised::new(Cause::SelfType))),
+            _ => Err(Stop::raise(Cause::SelfType)),
         },
         NativeEntry::OfList(_) => match world.payload(object) {
             Payload::List(items) => {
                 let all = repeat_items(world.alloc(), items, n)?;
                 end_with(world, entry, object, all)
             }
-            _ => Ok(Err(Raised::new(Cause::SelfType))),
+            _ => Err(Stop::raise(Cause::SelfType)),
         },
-        _ => Ok(Err(Raised::new(Cause::SelfType))),
+        _ => Err(Stop::raise(Cause::SelfType)),
     }
 }
 
@@ -56,10 +58,10 @@ pub(crate) fn repeat_stood(
     object: PyObjectRef,
     items: &[PyObjectRef],
     n: i64,
-) -> Result<Result<Answer, Raised>, OutOfMemory>
+) -> Result<Answer, Stop>
     requires object { Holds world.old (IsNode object) }
     requires items { Holds world.old (AreNodes items.now) }
-    ensures ends { IfOk result (λ r. EndsAs (λ t u. repeat_stood u entry object items.now n) world.old world.new r) }
+    ensures ends { Ended result (EndsAs (λ t u. repeat_stood u entry object items.now n) world.old world.new) }
     ensures safe { LeavesEnd world.old world.new result }
 {
     match entry {
@@ -68,7 +70,7 @@ pub(crate) fn repeat_stood(
                 let all = repeat_items(world.alloc(), items, n)?;
                 end_with(world, entry, object, all)
             }
-            _ => Ok(Err(Raised::new(Cause::SelfType))),
+            _ => Err(Stop::raise(Cause::SelfType)),
         },
         _ => native_repeat(world, entry, object, n),
     }
@@ -80,55 +82,51 @@ fn repeat_text(
     native: StrNative,
     object: PyObjectRef,
     n: i64,
-) -> Result<Result<Answer, Raised>, OutOfMemory>
+) -> Result<Answer, Stop>
     requires { Holds world.old (IsNode object) }
-    ensures ends { IfOk result (λ r. EndsAs (λ t u. native_repeat u (entry.OfStr native) object n)
-        world.old world.new r) }
+    ensures ends { Ended result (EndsAs (λ t u. native_repeat u (entry.OfStr native) object n)
+        world.old world.new) }
     ensures safe { LeavesEnd world.old world.new result }
 {
     match world.payload(object) {
-        Payload::Text(text) => match repeat_bytes(world.alloc(), text.as_str(), n)? {
-            Err(raised) => Ok(Err(raised)),
-            Ok(text) => new_text(world, text),
-        },
-        _ => Ok(Err(Raised::new(Cause::SelfType))),
+        Payload::Text(text) => {
+            let text = repeat_bytes(world.alloc(), text.as_str(), n)?;
+            new_text(world, text)
+        }
+        _ => Err(Stop::raise(Cause::SelfType)),
     }
 }
 
 // A text so many times, unless that is too long.
-fn repeat_bytes(alloc: Global, text: &str, n: i64) -> Result<Result<String, Raised>, OutOfMemory>
-    ensures given { IfOk result (λ r. IfOk r (λ x. (w : PlainWorld) (go : Text → Said) →
-        with_times w n text.now go ≡ go (string_bytes x))) }
-    ensures refused { IfOk result (λ r. IfErr r (λ x. (w : PlainWorld) (go : Text → Said) →
-        with_times w n text.now go ≡ Ends w (Err x))) }
+fn repeat_bytes(alloc: Global, text: &str, n: i64) -> Result<String, Stop>
+    ensures given { IfOk result (λ x. (w : PlainWorld) (go : Text → Said) →
+        with_times w n text.now go ≡ go (string_bytes x)) }
+    ensures refused { IfRaised result (λ x. (w : PlainWorld) (go : Text → Said) →
+        with_times w n text.now go ≡ Ends w (Err x)) }
 {
     match times_within(n, text.len()) {
-        None => Ok(Err(Raised::new(Cause::TooLong))),
+        None => Err(Stop::raise(Cause::TooLong)),
         Some(times) => {
             let all = text.repeat(alloc, times)?;
-            Ok(Ok(all))
+            Ok(all)
         }
     }
 }
 
 // Items so many times, unless these are too many.
-fn repeat_items(
-    alloc: Global,
-    items: &[PyObjectRef],
-    n: i64,
-) -> Result<Result<Args, Raised>, OutOfMemory>
-    ensures given { IfOk result (λ r. IfOk r (λ rs. (w : PlainWorld) (go : List Object → Said) →
-        with_times w n items.now go ≡ go rs.items)) }
-    ensures refused { IfOk result (λ r. IfErr r (λ x. (w : PlainWorld) (go : List Object → Said) →
-        with_times w n items.now go ≡ Ends w (Err x))) }
-    ensures holds { IfOk result (λ r. IfOk r (λ rs. (w : Held) → Holds w (AreNodes items.now) →
-        Holds w (AreNodes rs.items))) }
+fn repeat_items(alloc: Global, items: &[PyObjectRef], n: i64) -> Result<Args, Stop>
+    ensures given { IfOk result (λ rs. (w : PlainWorld) (go : List Object → Said) →
+        with_times w n items.now go ≡ go rs.items) }
+    ensures refused { IfRaised result (λ x. (w : PlainWorld) (go : List Object → Said) →
+        with_times w n items.now go ≡ Ends w (Err x)) }
+    ensures holds { IfOk result (λ rs. (w : Held) → Holds w (AreNodes items.now) →
+        Holds w (AreNodes rs.items)) }
 {
     match times_within(n, items.len()) {
-        None => Ok(Err(Raised::new(Cause::TooLong))),
+        None => Err(Stop::raise(Cause::TooLong)),
         Some(times) => {
             let all = items_times(alloc, items, times)?;
-            Ok(Ok(all))
+            Ok(all)
         }
     }
 }
@@ -148,26 +146,23 @@ fn items_times(alloc: Global, items: &[PyObjectRef], times: usize) -> Result<Arg
     Ok(all)
 }
 
-// Ends with such items, or as they were refused.
+// Ends with such items.
 fn end_with(
     world: &mut World,
     entry: NativeEntry,
     object: PyObjectRef,
-    all: Result<Args, Raised>,
-) -> Result<Result<Answer, Raised>, OutOfMemory>
+    items: Args,
+) -> Result<Answer, Stop>
     requires object { Holds world.old (IsNode object) }
     requires place { AllHold world.old (of_place entry object) }
-    requires items { IfOk all (λ rs. Holds world.old (AreNodes rs.items)) }
-    ensures ends { IfOk result (λ r. EndsAs (λ t u. ended_with u entry object all) world.old world.new r) }
+    requires items { Holds world.old (AreNodes items.items) }
+    ensures ends { Ended result (EndsAs (λ t u. ended_with u entry object (Ok items)) world.old world.new) }
     ensures safe { LeavesEnd world.old world.new result }
 {
-    match all {
-        Err(raised) => Ok(Err(raised)),
-        Ok(items) => match entry {
-            NativeEntry::OfTuple(_) => new_tuple(world, items),
-            NativeEntry::OfList(native) => end_with_list(world, native, object, items),
-            _ => Ok(Err(Raised::new(Cause::SelfType))),
-        },
+    match entry {
+        NativeEntry::OfTuple(_) => new_tuple(world, items),
+        NativeEntry::OfList(native) => end_with_list(world, native, object, items),
+        _ => Err(Stop::raise(Cause::SelfType)),
     }
 }
 
@@ -177,18 +172,18 @@ fn end_with_list(
     native: ListNative,
     list: PyObjectRef,
     items: Args,
-) -> Result<Result<Answer, Raised>, OutOfMemory>
+) -> Result<Answer, Stop>
     requires list { Holds world.old (IsNode list) }
     requires holding { Holds world.old (Holding list ListClass) }
     requires items { Holds world.old (AreNodes items.items) }
-    ensures ends { IfOk result (λ r. EndsAs (λ t u. list_repeated u (entry.OfList native) list items.items)
-        world.old world.new r) }
+    ensures ends { Ended result (EndsAs (λ t u. list_repeated u (entry.OfList native) list items.items)
+        world.old world.new) }
     ensures safe { LeavesEnd world.old world.new result }
 {
     match native {
         ListNative::InplaceMultiply => {
             world.set_payload(list, Payload::List(items));
-            Ok(Ok(Answer::Value(list)))
+            Ok(Answer::Value(list))
         }
         _ => new_list(world, items),
     }

@@ -28,7 +28,7 @@ fn method(world: &mut World) -> Result<String, NoValue> {
     let def = upper(world.alloc())?;
     let class = world.built_in(BuiltIn::Str);
     let method = PyMethodDescriptor::new(world, &def, class)?;
-    told_payload(world, Ok(method.payload()))
+    told_payload(world, method.payload(world.alloc()))
 }
 
 fn bound(world: &mut World) -> Result<String, NoValue> {

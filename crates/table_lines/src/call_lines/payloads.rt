@@ -33,15 +33,22 @@ fn told(world: &World, payload: &Payload) -> Result<String, OutOfMemory>
     requires { AllHold world.now (of_payload payload.now) }
 {
     match payload {
-        Payload::NativeFunction(function) => match function.target {
-            None => named(world, "a function", function.name),
-            Some(target) => {
-                let text = named(world, "a function", function.name)?;
-                bound(world, text, target)
+        Payload::NativeFunction(function) => {
+            let function = function.get();
+            match function.target {
+                None => named(world, "a function", function.name),
+                Some(target) => {
+                    let text = named(world, "a function", function.name)?;
+                    bound(world, text, target)
+                }
             }
-        },
-        Payload::MethodDescriptor(method) => of_class(world, "a method", method.class, method.name),
+        }
+        Payload::MethodDescriptor(method) => {
+            let method = method.get();
+            of_class(world, "a method", method.class, method.name)
+        }
         Payload::BuiltinMethod(method) => {
+            let method = method.get();
             let text = of_class(world, "a method", method.class, method.name)?;
             bound(world, text, method.target)
         }

@@ -1,23 +1,16 @@
-use Rattle.native_containers.proofs.Lemmas.{Err, ◌∙◌, PlainWorld, Said, Ends, Reading, plain, ok-map, dict_changed, dict_updated, err-map, update-says}
-use Rattle.std.proofs.Common.{◌≡◌}
+use Rattle.native_containers.proofs.Lemmas.{◌∙◌, plain, update-says, err_from_is_err_and}
 use Rattle.native_containers.proofs.init.update_from.Goals as goal
 
 pub returns-clause-updated : goal.returns-clause-updated
-returns-clause-updated c =
+returns-clause-updated c = λ t go.
     let w = c.args.world.now in
-    let mid = c.with_entries.new.world in
-    let new = c.change_dict.new.world in
-    let d = c.args.dict in
-    let o = c.args.other in
-    let items = c.in_ok-all.all.items in
-    ok-map (λ u. (t : Reading) (go : PlainWorld → Said) → dict_changed (plain t mid) d items go ≡ go (plain t new)) (λ u. (t : Reading) (go : PlainWorld → Said) → dict_updated (plain t w) d o go ≡ go (plain t new)) c.change_dict.result (λ u h t go. update-says (plain t w) (plain t mid) d o items go (c.in_ok-all.ensures.same t) (c.in_ok-all.ensures.entries t) (c.in_default.ensures.taken t) ∙ h t go) c.change_dict.ensures.changed
+    let all = c.in_ok-all.ensures in
+    update-says (plain t w) (plain t c.with_entries.new.world) c.args.dict c.args.other c.in_ok-all.all.items go (all.same t) (all.entries t) (c.in_default.ensures.taken t) ∙ c.in_ok-change_dict.ensures.changed t go
 
-pub returns-clause-refused : goal.returns-clause-refused
-returns-clause-refused c =
+pub returns-in_err-change_dict-clause-refused : goal.returns-in_err-change_dict-clause-refused
+returns-in_err-change_dict-clause-refused c =
     let w = c.args.world.now in
-    let mid = c.with_entries.new.world in
-    let new = c.change_dict.new.world in
-    let d = c.args.dict in
-    let o = c.args.other in
-    let items = c.in_ok-all.all.items in
-    err-map (λ x. (t : Reading) (go : PlainWorld → Said) → dict_changed (plain t mid) d items go ≡ Ends (plain t new) (Err x)) (λ x. (t : Reading) (go : PlainWorld → Said) → dict_updated (plain t w) d o go ≡ Ends (plain t new) (Err x)) c.change_dict.result (λ x h t go. update-says (plain t w) (plain t mid) d o items go (c.in_ok-all.ensures.same t) (c.in_ok-all.ensures.entries t) (c.in_default.ensures.taken t) ∙ h t go) c.change_dict.ensures.refused
+    let all = c.in_ok-all.ensures in
+    let p = err_from_is_err_and c.from_residual-in_err-change_dict.result c.from_residual-in_err-change_dict.ensures.1 in
+    rw (p.1, p.2) (λ t go.
+    update-says (plain t w) (plain t c.with_entries.new.world) c.args.dict c.args.other c.in_ok-all.all.items go (all.same t) (all.entries t) (c.in_default.ensures.taken t) ∙ c.in_err-change_dict.ensures.refused t go)

@@ -9,7 +9,7 @@ returns-in-NewOf-Int-clause-goes c =
     let i = c.in-NewOf-Int in
     let class = rw i.is at i.field-0-is in
     let is : a.entry ≡ NewOf built_in.Int = rw class at i.is in
-    let goes = rw (c.deref-in-NewOf-Int.ensures.value, c.deref-in-NewOf-Int-2.ensures.value) at c.begin_int.ensures.goes in
+    let goes = rw (c.deref.ensures.value, c.deref-2.ensures.value) at c.begin_int.ensures.goes in
     subst (λ n. IfOk c.begin_int.result (λ step. Starts n a.args.items a.kw.items a.world.now c.begin_int.new.world step)) (sym is) goes
 
 pub returns-in-NewOf-Str-clause-goes : goal.returns-in-NewOf-Str-clause-goes
@@ -18,7 +18,7 @@ returns-in-NewOf-Str-clause-goes c =
     let i = c.in-NewOf-Str in
     let class = rw i.is at i.field-0-is in
     let is : a.entry ≡ NewOf built_in.Str = rw class at i.is in
-    let goes = rw (c.deref-in-NewOf-Str.ensures.value, c.deref-in-NewOf-Str-2.ensures.value) at c.begin_str.ensures.goes in
+    let goes = rw (c.deref.ensures.value, c.deref-2.ensures.value) at c.begin_str.ensures.goes in
     subst (λ n. IfOk c.begin_str.result (λ step. Starts n a.args.items a.kw.items a.world.now c.begin_str.new.world step)) (sym is) goes
 
 pub returns-in-NewOf-Tuple-clause-goes : goal.returns-in-NewOf-Tuple-clause-goes
@@ -27,7 +27,7 @@ returns-in-NewOf-Tuple-clause-goes c =
     let i = c.in-NewOf-Tuple in
     let class = rw i.is at i.field-0-is in
     let is : a.entry ≡ NewOf built_in.Tuple = rw class at i.is in
-    let goes = rw (c.deref-in-NewOf-Tuple.ensures.value, c.deref-in-NewOf-Tuple-2.ensures.value) at c.begin_tuple.ensures.goes in
+    let goes = rw (c.deref.ensures.value, c.deref-2.ensures.value) at c.begin_tuple.ensures.goes in
     subst (λ n. IfOk c.begin_tuple.result (λ step. Starts n a.args.items a.kw.items a.world.now c.begin_tuple.new.world step)) (sym is) goes
 
 pub returns-in-NewOf-Bool-clause-goes : goal.returns-in-NewOf-Bool-clause-goes
@@ -36,5 +36,5 @@ returns-in-NewOf-Bool-clause-goes c =
     let i = c.in-NewOf-Bool in
     let class = rw i.is at i.field-0-is in
     let is : a.entry ≡ NewOf built_in.Bool = rw class at i.is in
-    let goes = rw (c.deref-in-NewOf-Bool.ensures.value, c.deref-in-NewOf-Bool-2.ensures.value) at c.begin_bool.ensures.goes in
+    let goes = rw (c.deref.ensures.value, c.deref-2.ensures.value) at c.begin_bool.ensures.goes in
     subst (λ n. Starts n a.args.items a.kw.items a.world.now a.world.now c.begin_bool.result) (sym is) goes

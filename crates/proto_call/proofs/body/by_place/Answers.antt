@@ -4,7 +4,7 @@ use Rattle.proto_call.proofs.body.by_place.Goals as goal
 
 pub by_keywords-requires-clause-kw : goal.by_keywords-requires-clause-kw
 by_keywords-requires-clause-kw c =
-    all-grow c.args.world.now c.with_rest.new.world c.with_rest.ensures.grows (of_each of_binding c.args.kw.now) c.requires.args.1
+    all-grow c.args.world.now c.with_rest.new.world c.with_rest.ensures.grows (of_each of_binding c.args.call.kw.now) c.requires.args.1
 
 pub returns-in_ok-vars-clause-goes : goal.returns-in_ok-vars-clause-goes
 returns-in_ok-vars-clause-goes c =
@@ -12,8 +12,8 @@ returns-in_ok-vars-clause-goes c =
     let mid = c.with_rest.new.world in
     let g = c.args.function.now in
     let f = c.args.f in
-    let args = c.args.args.now in
-    let kw = c.args.kw.now in
+    let args = c.args.call.args.now in
+    let kw = c.args.call.kw.now in
     let vars = c.in_ok-vars.vars in
     let fit : c.rest_fits.result ≡ true = search rules in
     let tested = rw c.deref.ensures.value at c.rest_fits.ensures in
@@ -28,8 +28,8 @@ returns-in_ok-vars-2-clause-goes c =
     let w = c.args.world.now in
     let g = c.args.function.now in
     let f = c.args.f in
-    let args = c.args.args.now in
-    let kw = c.args.kw.now in
+    let args = c.args.call.args.now in
+    let kw = c.args.call.kw.now in
     let vars = c.in_ok-vars-2.vars in
     let left = rw c.deref-else-function.ensures.value at c.left_over.ensures.items in
     let filling = rw c.deref-then-is_empty.ensures.value at c.in_ok-vars-2.ensures.vars in

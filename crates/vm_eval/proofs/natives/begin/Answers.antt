@@ -1,4 +1,4 @@
-use Rattle.vm_eval.proofs.Lemmas.{sym, ◌∙◌, item_job_say, item_stands, parts_job_say, parts_stands, compared_job_say, compared_stands, repeat_job_say, repeat_stands, detail_job_say, detail_stands, asking_job_say, asking_stands, ForParts, ForComparisons, ForRepeats, ForDetails, ForCalls, family-begins, plain-begins, items-family, parts-family, comparisons-family, repeats-family, details-family, calls-family}
+use Rattle.vm_eval.proofs.Lemmas.{sym, ◌∙◌, item_job_say, item_stands, parts_job_say, parts_stands, compared_job_say, compared_stands, repeat_job_say, repeat_stands, detail_job_say, detail_stands, asking_job_say, asking_stands, ForParts, ForComparisons, ForRepeats, ForDetails, ForCalls, family-begins, plain-begins, sorted_ends, items-family, parts-family, comparisons-family, repeats-family, details-family, calls-family}
 use Rattle.vm_eval.specs.declared.natives.family.Family.TheVariants as family
 use Rattle.vm_eval.specs.declared.natives.NativesKept.TheVariants.{ForItems}
 use Rattle.vm_eval.proofs.natives.begin.Goals as goal
@@ -42,5 +42,12 @@ returns-in_ok-step-in-Calls-clause-goes c =
 pub returns-in_ok-answer-in-Plain-clause-goes : goal.returns-in_ok-answer-in-Plain-clause-goes
 returns-in_ok-answer-in-Plain-clause-goes c =
     let a = c.args in
-    let ends = rw (c.deref.ensures.value, c.deref-in-Plain.ensures.value) at c.in_ok-answer-in-Plain.ensures.ends in
-    plain-begins a.entry a.args.items a.kw.items _ _ c.in_ok-answer-in-Plain.answer (sym c.family_of.ensures ∙ c.in-Plain.is) ends
+    let e = c.in_ok-answer-in-Plain in
+    let ends = rw (c.deref.ensures.value, c.deref-in-Plain.ensures.value) at c.plain_native.ensures.ends in
+    plain-begins a.entry a.args.items a.kw.items _ _ e.answer (sym c.family_of.ensures ∙ c.in-Plain.is) (sorted_ends c.plain_native.result e.answer _ e.ensures ends)
+
+pub returns-in_ok-answer-in-Plain-clause-safe : goal.returns-in_ok-answer-in-Plain-clause-safe
+returns-in_ok-answer-in-Plain-clause-safe c =
+    let e = c.in_ok-answer-in-Plain in
+    let safe = c.plain_native.ensures.safe in
+    (safe.0, sorted_ends c.plain_native.result e.answer _ e.ensures safe.1)

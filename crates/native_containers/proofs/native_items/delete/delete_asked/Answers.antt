@@ -1,4 +1,4 @@
-use Rattle.native_containers.proofs.Lemmas.{◌∙◌, [], ap, sym, refl, subst, is_some, DelItem, OfList, Index, Protocol, DoIndex, ToProtocol, plain, AreNodes, Holds, no-nodes, Deleting, list_changed, items_at, del_asked, del_item, put_part, stood_told, del-asked, deleting-alike, asks-does, ends-does}
+use Rattle.native_containers.proofs.Lemmas.{◌∙◌, [], ap, sym, refl, subst, is_some, DelItem, OfList, Index, Protocol, DoIndex, ToProtocol, plain, AreNodes, Holds, no-nodes, Deleting, list_changed, items_at, del_asked, del_item, put_part, stood_told, del-asked, deleting-alike, asks-does, ends-does, sorted_ends}
 use Rattle.std.proofs.Common.{◌∷◌}
 use Rattle.native_containers.proofs.native_items.delete.delete_asked.Goals as goal
 
@@ -9,7 +9,7 @@ returns-in_ok-ended-in-Some-clause-goes c =
     ends-does (OfList DelItem) (a.list ∷ a.key ∷ []) (λ t u. del_item u a.list a.key []) (λ t u. list_changed u a.list (put_part u s (items_at u a.list) c.new-none.result.items)) a.world.now c.replace_part.new.world c.in_ok-ended-in-Some.ended (λ t.
     let u = plain t a.world.now in
     ap (λ x. del_asked u x a.list a.key) (c.in-Some.ensures.reads t)
-    ∙ ap (λ ys. list_changed u a.list (put_part u s (items_at u a.list) ys)) (sym c.new-none.ensures.items)) c.in_ok-ended-in-Some.ensures.ends
+    ∙ ap (λ ys. list_changed u a.list (put_part u s (items_at u a.list) ys)) (sym c.new-none.ensures.items)) (sorted_ends c.replace_part.result c.in_ok-ended-in-Some.ended _ c.in_ok-ended-in-Some.ensures c.replace_part.ensures.ends)
 
 pub returns-in_ok-stood-in-None-clause-goes : goal.returns-in_ok-stood-in-None-clause-goes
 returns-in_ok-stood-in-None-clause-goes c =

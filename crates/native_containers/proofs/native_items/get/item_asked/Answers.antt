@@ -1,4 +1,4 @@
-use Rattle.native_containers.proofs.Lemmas.{◌∙◌, [], ap, sym, refl, is_some, Index, Protocol, DoIndex, ToProtocol, plain, Getting, get_item, item_asked, part, getter_of, made_as, stood_told, get-asked, getting-alike, asks-does, ends-does}
+use Rattle.native_containers.proofs.Lemmas.{◌∙◌, [], ap, sym, refl, is_some, Index, Protocol, DoIndex, ToProtocol, plain, Getting, get_item, item_asked, part, getter_of, made_as, stood_told, get-asked, getting-alike, asks-does, ends-does, sorted_ends}
 use Rattle.std.proofs.Common.{◌∷◌}
 use Rattle.native_containers.proofs.native_items.get.item_asked.Goals as goal
 
@@ -11,7 +11,7 @@ returns-in_ok-ended-in-Some-clause-goes c =
     let u = plain t a.world.now in
     ap (λ x. item_asked u (made_as s u) x a.object a.key) (c.in-Some.ensures.reads t)
     ∙ ap (λ l. made_as s u (part u c.in-Some.slice l)) (c.items.ensures.same t)
-    ∙ ap (made_as s u) (c.in_ok-part-in-Some.ensures.part t)) c.in_ok-ended-in-Some.ensures.ends
+    ∙ ap (made_as s u) (c.in_ok-part-in-Some.ensures.part t)) (sorted_ends c.made.result c.in_ok-ended-in-Some.ended _ c.in_ok-ended-in-Some.ensures c.made.ensures.ends)
 
 pub returns-in_ok-stood-in-None-clause-goes : goal.returns-in_ok-stood-in-None-clause-goes
 returns-in_ok-stood-in-None-clause-goes c =

@@ -9,7 +9,7 @@ pub returns-in-Err-one_at_most-clause-goes : goal.returns-in-Err-one_at_most-cla
 returns-in-Err-one_at_most-clause-goes c =
     let a = c.args in
     let e = c.in-Err-one_at_most in
-    maker-refused built_in.Str str-alone str-asks a.args.now a.kw.now (str-said a.args.now) a.world.now c.in-Ok.class.0 c.in-Ok.ensures.given e.raised e.ensures.refused
+    maker-refused built_in.Str str-alone str-asks a.call.args.now a.call.kw.now (str-said a.call.args.now) a.world.now c.in-Ok.class.0 c.in-Ok.ensures.given e.raised e.ensures.refused
 
 pub returns-in_ok-node-in-Ok-None-clause-goes : goal.returns-in_ok-node-in-Ok-None-clause-goes
 returns-in_ok-node-in-Ok-None-clause-goes c =
@@ -20,7 +20,7 @@ returns-in_ok-node-in-Ok-None-clause-goes c =
     let x = string_bytes c.new-text.result in
     let empty : [] ≡ x = sym c.new-text.ensures.bytes in
     let made = made-so (λ t u. str-alone u k) a.world.now c.make_node.new.self k (λ t. AText x) e.node (λ t. ap (λ b. object_made (plain t a.world.now) k (AText b)) empty) e.ensures.made e.ensures.number in
-    maker-alone built_in.Str str-alone str-asks a.args.now a.kw.now (str-said a.args.now) a.world.now k c.in-Ok.ensures.given c.make_node.new.self (Ok (Value e.node)) given e.ensures.reads made
+    maker-alone built_in.Str str-alone str-asks a.call.args.now a.call.kw.now (str-said a.call.args.now) a.world.now k c.in-Ok.ensures.given c.make_node.new.self (Ok (Value e.node)) given e.ensures.reads made
 
 pub returns-in-Ok-Some-clause-goes : goal.returns-in-Ok-Some-clause-goes
 returns-in-Ok-Some-clause-goes c =
@@ -28,4 +28,4 @@ returns-in-Ok-Some-clause-goes c =
     let k = c.in-Ok.class in
     let o = c.in-Ok-Some.object in
     let given = rw c.in-Ok-Some.field-0-is at c.in-Ok-Some.ensures.given in
-    maker-asks built_in.Str str-alone str-asks a.args.now a.kw.now (str-said a.args.now) a.world.now k.0 c.in-Ok.ensures.given o (task.Object (object.Str o)) (NewStr k) (ReadObjects (ref k.0 ∷ []) ∷ []) given (λ t. refl) (λ t u r more. str-waits a.args.now k (bindings t a.kw.now) t u r more)
+    maker-asks built_in.Str str-alone str-asks a.call.args.now a.call.kw.now (str-said a.call.args.now) a.world.now k.0 c.in-Ok.ensures.given o (task.Object (object.Str o)) (NewStr k) (ReadObjects (ref k.0 ∷ []) ∷ []) given (λ t. refl) (λ t u r more. str-waits a.call.args.now k (bindings t a.call.kw.now) t u r more)

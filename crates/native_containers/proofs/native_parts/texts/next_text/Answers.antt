@@ -1,4 +1,4 @@
-use Rattle.native_containers.proofs.Lemmas.{◌∙◌, [], drop, Some, ap, sym, slice_get, node-in, grows-itself, drop-got, drop-none, text-asks, text-finish}
+use Rattle.native_containers.proofs.Lemmas.{◌∙◌, [], drop, Some, ap, sym, slice_get, node-in, grows-itself, drop-got, drop-none, text-asks, text-finish, sorted_ends}
 use Rattle.std.proofs.Common.{◌≡◌, ◌+◌, ◌∷◌}
 use Rattle.native_containers.proofs.native_parts.texts.next_text.Goals as goal
 
@@ -6,7 +6,7 @@ pub returns-in_ok-ended-in-None-clause-goes : goal.returns-in_ok-ended-in-None-c
 returns-in_ok-ended-in-None-clause-goes c =
     let p = c.args.parts in
     let e : drop p.next p.items.items ≡ [] = drop-none p.items.items p.next (ap (λ vs. slice_get vs p.next) (sym c.deref.ensures.value) ∙ c.in-None.ensures) in
-    let ends = rw c.deref-in-None.ensures.value at c.in_ok-ended-in-None.ensures.ends in
+    let ends = sorted_ends c.end_text.result c.in_ok-ended-in-None.ended _ c.in_ok-ended-in-None.ensures (rw c.deref-in-None.ensures.value at c.end_text.ensures.ends) in
     text-finish c.args.container p.texts.items (drop p.next p.items.items) c.args.world.now c.end_text.new.world c.in_ok-ended-in-None.ended e ends
 
 pub returns-in-Some-clause-goes : goal.returns-in-Some-clause-goes

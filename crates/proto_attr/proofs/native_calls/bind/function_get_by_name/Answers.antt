@@ -1,14 +1,16 @@
-use Rattle.proto_attr.proofs.Lemmas.{Some, Option, PyObjectRef, PlainWorld, Said, bindings, plain, class_of_option, function_get, function_get_by_name, taken-descriptor}
+use Rattle.proto_attr.proofs.Lemmas.{Some, Option, PyObjectRef, PlainWorld, Said, bindings, plain, err_from_is_err_and, class_of_option, function_get, function_get_by_name, taken-descriptor}
 use Rattle.proto_attr.proofs.native_calls.bind.function_get_by_name.Goals as goal
 
 abbrev go : PlainWorld → PyObjectRef → PyObjectRef → Option PyObjectRef → Said
 go u m o k = function_get u m (Some o) (class_of_option u k)
 
-pub returns-in-Err-clause-ends : goal.returns-in-Err-clause-ends
-returns-in-Err-clause-ends c = λ t q. (q, c.in-Err.ensures.refused t (go (plain t c.args.world.now)))
+pub returns-in_err-m-clause-ends : goal.returns-in_err-m-clause-ends
+returns-in_err-m-clause-ends c =
+    let p = err_from_is_err_and c.from_residual.result c.from_residual.ensures.1 in
+    rw (p.1, p.2) (λ t q. (q, c.in_err-m.ensures.refused t (go (plain t c.args.world.now))))
 
-pub returns-in-Ok-clause-ends : goal.returns-in-Ok-clause-ends
-returns-in-Ok-clause-ends c =
+pub returns-clause-ends : goal.returns-clause-ends
+returns-clause-ends c =
     let a = c.args in
-    let p = c.in-Ok in
-    taken-descriptor (λ t u. function_get_by_name u a.args.now (bindings t a.kw.now)) (λ t u. function_get u p.m (Some p.o) (class_of_option u p.class)) a.world.now c.bind_function.new.world c.bind_function.result (λ t. p.ensures.given t (go (plain t a.world.now))) c.bind_function.ensures.goes
+    let p = c.in_ok-m in
+    taken-descriptor (λ t u. function_get_by_name u a.call.args.now (bindings t a.call.kw.now)) (λ t u. function_get u p.m (Some p.o) (class_of_option u p.class)) a.world.now c.bind_function.new.world c.bind_function.result (λ t. p.ensures.given t (go (plain t a.world.now))) c.bind_function.ensures.goes

@@ -11,4 +11,4 @@ pub returns-in-Ok-clause-steps : goal.returns-in-Ok-clause-steps
 returns-in-Ok-clause-steps c =
     let a = c.args in
     let p = c.in-Ok in
-    taken-steps (λ t u. member_get_by_name u a.args.now (bindings t a.kw.now)) (λ t u. member_get u (datum_at u p.m) p.m (Some p.o)) a.world.now a.world.now c.member_get.result (λ t. p.ensures.given t (go (plain t a.world.now))) c.member_get.ensures.steps
+    taken-steps (λ t u. member_get_by_name u a.call.args.now (bindings t a.call.kw.now)) (λ t u. member_get u (datum_at u p.m) p.m (Some p.o)) a.world.now a.world.now c.member_get.result (λ t. p.ensures.given t (go (plain t a.world.now))) c.member_get.ensures.steps

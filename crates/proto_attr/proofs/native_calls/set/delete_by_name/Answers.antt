@@ -4,5 +4,5 @@ use Rattle.proto_attr.proofs.native_calls.set.delete_by_name.Goals as goal
 pub set_as-requires : goal.set_as-requires
 set_as-requires c =
     let w = c.args.world.now in
-    let args = c.args.args.now in
+    let args = c.args.call.args.now in
     (item_holds w args 0 (record { 0 = 0 }) (omega (arith, c.in-len1-up.len_at_least)) c.requires, (c.in-Ok.ensures.node w (rest-hold w args c.requires), tt))

@@ -13,9 +13,9 @@ returns-in-None-clause-goes c =
     let w = a.world.now in
     let m = c.in-Ok.own.0 in
     let d = c.in-Ok.own.1 in
-    name-asks (GetterOf MemberDescriptor a.detail) a.args.now a.kw.now w m c.class_object-class.result (task.Attribute (attribute.GetAttr c.class_object-class.result c.known.result)) (λ u bs b. refl) (λ t.
+    name-asks (GetterOf MemberDescriptor a.detail) a.call.args.now a.call.kw.now w m c.class_object-class.result (task.Attribute (attribute.GetAttr c.class_object-class.result c.known.result)) (λ u bs b. refl) (λ t.
     let u = plain t w in
-    c.in-Ok.ensures.given t (λ o x. with_one u a.args.now (bindings t a.kw.now) (λ y. name_known u o x.0 x.1))
+    c.in-Ok.ensures.given t (λ o x. with_one u a.call.args.now (bindings t a.call.kw.now) (λ y. name_known u o x.0 x.1))
     ∙ c.in_default.ensures.given t u (λ y. name_known u m d.class.0 (spelled_option t d.qualname))
     ∙ ap (λ q. name_known u m d.class.0 (spelled_option t q)) c.in-None.is
     ∙ ap (λ k. Asks u (ReadObjects (m ∷ []) ∷ []) (ToAttribute (DoGetAttr k (known_text known.Qualname)))) (c.class_object-class.ensures.object t)) (λ t q. ap (λ x. ToAttribute (DoGetAttr c.class_object-class.result x)) (c.known.ensures.spelled t q))

@@ -1,11 +1,11 @@
-use Rattle.proto_attr.proofs.Lemmas.{Err, sym, ap, ◌∙◌, known_text, Ends, fault, plain, take_own, refused}
+use Rattle.proto_attr.proofs.Lemmas.{sym, ap, ◌∙◌, known_text, Ends, fault, plain, take_own, refused}
 use Rattle.proto_attr.proofs.native_objects.class_setters.take_own.Goals as goal
 
 pub returns-in-Err-Refused-clause-ends : goal.returns-in-Err-Refused-clause-ends
-returns-in-Err-Refused-clause-ends c = λ t q.
+returns-in-Err-Refused-clause-ends c = rw c.raise-in-Err-Refused.ensures (λ t q.
     let e = c.in-Err-Refused.ensures in
     let u = plain t c.args.world.now in
     let k = c.args.class.0 in
     let cause = c.in-Err-Refused.cause in
     let told = rw c.in-Err-Refused.field-0-is at c.in-Err-Refused.ensures.refused in
-    (e.reads t q, refused u k (take_own u k (known_text c.args.name)) cause (told t) ∙ ap (λ v. Ends (plain t v) (fault cause)) (sym e.err) ∙ ap (λ x. Ends (plain t c.del_attr_direct.new.self) (Err x)) (sym c.new-in-Err-Refused.ensures))
+    (e.reads t q, refused u k (take_own u k (known_text c.args.name)) cause (told t) ∙ ap (λ v. Ends (plain t v) (fault cause)) (sym e.err)))

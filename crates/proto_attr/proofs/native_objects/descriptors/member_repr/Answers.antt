@@ -4,9 +4,9 @@ use Rattle.proto_attr.proofs.native_objects.descriptors.member_repr.Goals as goa
 pub returns-clause-ends : goal.returns-clause-ends
 returns-clause-ends c =
     let w = c.args.world.now in
-    let m = c.in-Ok.member.1 in
-    ends-after (λ t u. member_repr u c.args.args.now (bindings t c.args.kw.now)) (λ t u. text_made u (in_length (string_bytes c.in_ok-text.text))) w c.limited_text.new.world c.limited_text.result (λ t r.
+    let m = c.in_ok-_object in
+    ends-after (λ t u. member_repr u c.args.call.args.now (bindings t c.args.call.kw.now)) (λ t u. text_made u (in_length (string_bytes c.in_ok-text.text))) w c.limited_text.new.world c.limited_text.result (λ t r.
     let u = plain t w in
-    c.in-Ok.ensures.given t (λ o n. with_one u c.args.args.now (bindings t c.args.kw.now) (λ a. text_made u (in_length (member_text u n))))
-    ∙ c.in_default.ensures.given t u (λ a. text_made u (in_length (member_text u (m.0.0, spelled t m.1))))
+    m.ensures.given t (λ o n. with_one u c.args.call.args.now (bindings t c.args.call.kw.now) (λ a. text_made u (in_length (member_text u n))))
+    ∙ c.in_ok-one.ensures.given t u (λ a. text_made u (in_length (member_text u (m.class.0, spelled t m.name))))
     ∙ ap (λ x. text_made u (in_length x)) (sym (c.in_ok-text.ensures t r))) c.limited_text.ensures.ends

@@ -1,7 +1,7 @@
 use Rattle.proto_attr.proofs.Lemmas.{grows-itself, some-holds}
 use Rattle.proto_attr.proofs.native_objects.getters.dict_of_any.Goals as goal
 
-pub returns-in-None-clause-safe : goal.returns-in-None-clause-safe
-returns-in-None-clause-safe c =
+pub returns-in_ok-dict_or_fault-in-None-clause-safe : goal.returns-in_ok-dict_or_fault-in-None-clause-safe
+returns-in_ok-dict_or_fault-in-None-clause-safe c =
     let w = c.args.world.now in
-    (grows-itself w, c.dict_or_fault.ensures.holds w (some-holds w c.dict_of.result c.dict_of.ensures.node))
+    (grows-itself w, c.in_ok-dict_or_fault-in-None.ensures.holds w (some-holds w c.dict_of.result c.dict_of.ensures.node))

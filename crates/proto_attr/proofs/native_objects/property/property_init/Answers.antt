@@ -4,7 +4,7 @@ use Rattle.proto_attr.proofs.native_objects.property.property_init.Goals as goal
 pub with_parts-requires-clause-parts : goal.with_parts-requires-clause-parts
 with_parts-requires-clause-parts c =
     let w = c.args.world.now in
-    subst (λ p. AllHold w (of_property p)) (sym c.placed.ensures) (placed-hold w c.args.args.now c.requires.args)
+    subst (λ p. AllHold w (of_property p)) (sym c.placed.ensures) (placed-hold w c.args.call.args.now c.requires.args)
 
 pub may_name-requires : goal.may_name-requires
 may_name-requires c =

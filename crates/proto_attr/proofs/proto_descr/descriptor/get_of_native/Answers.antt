@@ -1,5 +1,5 @@
 use Rattle.py_node.specs.declared.task.DescriptorTask.TheVariants as descriptor
-use Rattle.proto_attr.proofs.Lemmas.{PlainWorld, datum_at, Reading, plain, native_get, described, closes-starts}
+use Rattle.proto_attr.proofs.Lemmas.{PlainWorld, datum_at, Reading, plain, native_get, described, closes-starts, sorted_ends}
 use Rattle.proto_attr.proofs.proto_descr.descriptor.get_of_native.Goals as goal
 
 pub returns-clause-goes : goal.returns-clause-goes
@@ -10,4 +10,4 @@ returns-clause-goes c =
     let other = λ (t : Reading). λ (u : PlainWorld). native_get u (described t native.result) a.m a.o a.class in
     closes-starts (descriptor.DescrGet a.m a.o a.class) said other a.world.now c.native_get.new.world c.in_ok-ended.ended
     (λ t r. native.ensures.reads t (plain t a.world.now) a.o a.class)
-    c.in_ok-ended.ensures.goes
+    (sorted_ends c.native_get.result c.in_ok-ended.ended _ c.in_ok-ended.ensures c.native_get.ensures.goes)

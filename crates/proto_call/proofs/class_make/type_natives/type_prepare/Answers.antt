@@ -14,6 +14,6 @@ returns-clause-ends c =
     let few : nat_le (length args) 3 ≡ true = search rules in
     ends-after (λ t u. type_prepare u args) (λ t u. object_made u the_dict (datum t (payload.Dict c.new-dict.result))) w c.new_object.new.world c.new_object.result (λ t r.
     let u = plain t w in
-    c.in_default.ensures.given t (λ k. with_name_and_bases u args (object_made u the_dict (ADict [])))
+    c.in_ok-own_class.ensures.given t (λ k. with_name_and_bases u args (object_made u the_dict (ADict [])))
     ∙ ap (λ b. cond b (object_made u the_dict (ADict [])) (Ends u (fault ArgCount))) few
     ∙ ap (λ (d : PlainDict). object_made u the_dict (ADict d.items)) (sym c.new-dict.ensures)) c.new_object.ensures.ends

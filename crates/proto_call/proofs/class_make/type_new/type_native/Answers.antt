@@ -1,5 +1,5 @@
 use Rattle.py_node.specs.declared.entry.TypeNative.TheVariants as type
-use Rattle.proto_call.proofs.Lemmas.{types-begin}
+use Rattle.proto_call.proofs.Lemmas.{EndsAs, bindings, plain, class_job_say, type_native_say, class_stands, DoType, fresh, caught_goes, type-ends, types-begin}
 use Rattle.proto_call.proofs.class_make.type_new.type_native.Goals as goal
 
 pub returns-in-New-clause-goes : goal.returns-in-New-clause-goes
@@ -25,3 +25,16 @@ pub returns-in-Call-clause-goes : goal.returns-in-Call-clause-goes
 returns-in-Call-clause-goes c =
     let f = c.type_call in
     types-begin c.args.native type.Call c.args.args.items c.args.kw.items c.args.world.now f.new.world f.result c.in-Call.is f.ensures.goes
+
+pub returns-in_ok-answer-in_default-clause-goes : goal.returns-in_ok-answer-in_default-clause-goes
+unfolding class_job_say
+returns-in_ok-answer-in_default-clause-goes c =
+    let n = c.args.native in
+    let args = c.args.args.items in
+    let kw = c.args.kw.items in
+    let old = c.args.world.now in
+    let f = c.type_native in
+    let e = c.in_ok-answer-in_default in
+    let d = c.in_default in
+    let ends = rw (c.deref.ensures.value, c.deref-in_default.ensures.value) at f.ensures.ends in
+    caught_goes class_job_say class_stands (λ t. fresh (DoType n args (bindings t kw))) (λ t u. type_native_say u n args (bindings t kw)) old f.new.world f.result e.answer e.ensures ends (λ t q. type-ends (plain t old) n args (bindings t kw) d.not-New d.not-GetAttribute d.not-SetAttr d.not-DelAttr d.not-Call)

@@ -1,4 +1,4 @@
-use Rattle.proto_object.proofs.Lemmas.{sym, subst, IfOk, of_ended, AllHold, grows-itself, Gathering, End, all-gathered, no-item}
+use Rattle.proto_object.proofs.Lemmas.{sym, subst, IfOk, of_ended, AllHold, EndsAs, list_made, sorted_ends, grows-itself, Gathering, End, all-gathered, no-item}
 use Rattle.proto_object.specs.ProtoItems.Rows.{Resumes}
 use Rattle.proto_object.proofs.proto_items.listed.gather.Goals as goal
 
@@ -20,7 +20,8 @@ returns-in_ok-ended-in-Ok-None-clause-goes c =
     let w = a.world.now in
     let new = c.new_list.new.world in
     let is = rw c.in-Ok-None.field-0-is at c.in-Ok-None.ensures.item in
-    let over = all-gathered w a.iterator a.items new c.in_ok-ended-in-Ok-None.ended c.in_ok-ended-in-Ok-None.ensures.ends in
+    let ends = sorted_ends c.new_list.result c.in_ok-ended-in-Ok-None.ended (EndsAs (λ t u. list_made u a.items.items) w new) c.in_ok-ended-in-Ok-None.ensures c.new_list.ensures.ends in
+    let over = all-gathered w a.iterator a.items new c.in_ok-ended-in-Ok-None.ended ends in
     subst (λ r. Resumes (Gathering a.iterator a.items) r w new (End c.in_ok-ended-in-Ok-None.ended)) (sym is) over
 
 pub returns-in-Err-clause-goes : goal.returns-in-Err-clause-goes

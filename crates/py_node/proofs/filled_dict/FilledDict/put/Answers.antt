@@ -1,6 +1,6 @@
 use Rattle.py_node.proofs.Lemmas.{length, sym, ap, ◌∙◌, subst, PlainDict, dict_put, put-is}
 use Rattle.std.proofs.Common.{◌<◌}
-use Rattle.py_node.proofs.dict.PyDict.put.Goals as goal
+use Rattle.py_node.proofs.filled_dict.FilledDict.put.Goals as goal
 
 pub returns : goal.returns
 returns c =
