@@ -9,7 +9,7 @@ mod arguments;
 mod stop;
 
 use arguments::{none, one};
-use py_node::{BuiltIn, PyObjectRef, Stop, caught};
+use py_node::{BuiltIn, PyObjectRef};
 use script_text::read_script;
 use std::alloc::Global;
 use std::io;
@@ -88,7 +88,7 @@ fn labelled(vm: &mut VirtualMachine, text: &str) -> Result<PyObjectRef, Stop>
     let base = vm.world().built_in(BuiltIn::Object);
     let class = vm.new_simple_heap("Order", base)?;
     let text = String::from_str(vm.world().alloc(), text)?;
-    let label = done(caught(new_text(vm, text))?)?;
+    let label = done(new_text(vm, text)?)?;
     vm.set_str_attr(class, "label", label)?;
     let class = vm.world().class_node(class);
     let args = none(vm.world().alloc());
