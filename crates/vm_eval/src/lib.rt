@@ -4,14 +4,17 @@
 mod ask;
 pub mod calls;
 mod class_changes;
+mod first_steps;
 mod look_ahead;
 pub mod machine;
 mod makers;
 mod mark;
 pub mod natives;
+mod next_steps;
 mod nodes;
 pub mod protocols;
 mod run;
 mod stack;
+mod steps;
 
 pub use machine::{RunFault, VirtualMachine};
