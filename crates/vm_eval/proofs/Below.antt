@@ -1,5 +1,5 @@
 -- The words that the lemmas of this crate are written in: its own definitions, and words and lemmas of crates below.
-pub use Rattle.class_world.proofs.Claims.{all-last, all-rest, each-pop, each-push}
+pub use Rattle.class_world.proofs.Claims.{all-first, all-last, all-rest, each-pop, each-push}
 pub use Rattle.class_world.proofs.Growth.{lasts-on}
 pub use Rattle.class_world.specs.Reading.{Reading, Reads, bindings, ended_of, scope_of, task_of}
 unfoldable pub use Rattle.class_world.specs.Reading.{plain}
@@ -43,7 +43,7 @@ unfoldable pub use Rattle.vm_eval.specs.OfNatives.Say.{native_job_say}
 pub use Rattle.vm_eval.specs.Runs.{Replied, before, trees_in}
 pub use Rattle.vm_eval.specs.Say.{Begins, Resumes, among, bodies_in, branch_of, by_branch, of_kept, step_among, to_native}
 unfoldable pub use Rattle.vm_eval.specs.Say.{say, stands}
-pub use Rattle.vm_eval.specs.Stack.{Answers, AsDeep, BeginsAt, IsOnItsWay, Reaches, coming, ending_of, finish, unwind}
+pub use Rattle.vm_eval.specs.Stack.{Answers, AsDeep, BeginsAt, Comes, EndsDeep, IsFirst, IsFirstAbove, IsNext, IsOnItsWay, IsTaken, IsUnderWay, Reaches, coming, ending_of, finish, turns_more, unwind}
 unfoldable pub use Rattle.vm_eval.specs.Stack.{state}
 pub use Rattle.vm_eval.specs.declared.natives.NativesKept.{NativesKept}
 pub use Rattle.vm_eval.specs.declared.natives.NativesKept.TheVariants.{ForCalls, ForComparisons, ForDetails, ForParts, ForRepeats}

@@ -1,8 +1,10 @@
 -- One turn of the machine keeps the outcome, whatever the rows are.
-use Rattle.vm_eval.proofs.Below.{ℕ, zero, suc, List, [], length, map, Ok, Err, IfOk, refl, subst, sym, ap, ◌∙◌, arith, zero-add, true, false, cond, nat_lt, lt-ltb, le-ltb, length-append, map-append, length-map, sum_by_push, DepthLimit, Raised as Fault, Answer, Task, Step, Ask, End, PlainWorld, PlainTask, Ended, Answered, Told, Said, Asks, Ends, fault, Over, NoUnits, Outcome, Out, carry, asked, step, reach, Pending, reach-is, reach-alike, World, Reading, Reads, plain, task_of, ended_of, Steps, of_task, LeavesOpen, each-pop, each-push, all-last, all-rest, lasts-on, Kept, say, stands, of_kept, bodies_in, Begins, Resumes, finish, unwind, coming, state, BeginsAt, IsOnItsWay, Reaches}
+use Rattle.vm_eval.proofs.Below.{ℕ, zero, suc, List, [], length, map, Ok, Err, IfOk, refl, subst, sym, ap, ◌∙◌, arith, zero-add, true, false, cond, nat_lt, lt-ltb, le-ltb, length-append, map-append, length-map, sum_by_push, DepthLimit, Raised as Fault, Answer, Task, Step, Ask, End, PlainWorld, PlainTask, Ended, Answered, Told, Said, Asks, Ends, fault, Over, NoUnits, Outcome, Out, carry, asked, step, reach, Pending, reach-is, reach-alike, World, Reading, Reads, plain, task_of, ended_of, Steps, of_task, LeavesOpen, each-pop, each-push, all-first, all-last, all-rest, lasts-on, Kept, say, stands, of_kept, bodies_in, Begins, Resumes, finish, unwind, coming, state, BeginsAt, IsOnItsWay, Reaches, IsTaken, Comes, IsFirst, IsFirstAbove, IsNext, IsUnderWay, EndsDeep}
 use Rattle.std.proofs.Common.{◌≡◌, ◌+◌, ◌<◌, ◌≤◌, ◌∷◌, ◌++◌}
 use Rattle.std.specs.Prelude.{Result}
 use Rattle.vm_eval.specs.declared.stack.End.TheVariants as code
+use Rattle.vm_eval.specs.declared.stack.Next.{Next}
+use Rattle.vm_eval.specs.declared.stack.Next.TheVariants as next
 
 unwind-append : (depth : ℕ) (ps : List (Pending PlainTask)) (p : Pending PlainTask) (o : Outcome) → unwind depth (ps ++ p ∷ []) o ≡ unwind depth ps (finish p (depth + length ps) o)
 unwind-append depth [] p o = let e : depth ≡ depth + 0 = omega arith in ap (λ n. finish p n o) e
@@ -80,9 +82,9 @@ module _ (depth : ℕ) (task : Task) where
         ∙ step-coming t (task_of t task) [] (say w (task_of t task) []) next new left depth (h t reads).1,
   )
 
-  pub asked-begins : {E : Type 0} (old new : World) (o : Result (Step Kept) E) → depth < 1000 → IfOk o (λ next. Begins task old new next) → IfOk o (λ next. BeginsAt depth task old new next)
-  asked-begins old new (Ok next) below h = begins-at old new next (lt-ltb _ _ below) h
-  asked-begins old new (Err e) below h = tt
+  pub comes-above : {E : Type 0} (old new : World) (below stack : List Kept) (o : Result Next E) → depth < 1000 → IfOk o (λ to. Comes (IsFirst task old new) below stack to) → IfOk o (λ to. Comes (IsFirstAbove depth task old new) below stack to)
+  comes-above old new below stack (Ok to) low h = (h.0, (begins-at old new h.0 (lt-ltb _ _ low) h.1.0, h.1.1), h.2)
+  comes-above old new below stack (Err e) low h = tt
 
   -- or it stands too deep
   pub asked-limited : (w : World) → 1000 ≤ depth → BeginsAt depth task w w (End (fault DepthLimit))
@@ -149,3 +151,60 @@ module _ (task : Task) (first : World) (units : ℕ) where
   -- or no unit is left
   pub spent : (w : World) (stack : List Kept) (asked : Task) (kept : Kept) → IsOnItsWay task first units w stack 0 (Ask asked kept) → Reaches task first units w code.NoUnits
   spent w stack asked kept way = λ t reads. let o = way.outcome t reads in (o.0, 0, sym (state-no_units t w stack asked kept ∙ o.1))
+
+-- a step that is taken
+pub comes : {E : Type 0} (Is : Step Kept → Type 0) (below stack : List Kept) (step : Step Kept) (o : Result Next E) → Is step → IfOk o (λ to. IsTaken step below stack to) → IfOk o (λ to. Comes Is below stack to)
+comes Is below stack step (Ok to) is taken = (step, is, taken)
+comes Is below stack step (Err e) is taken = tt
+
+-- the machine stays on its way, where each step is taken
+module _ (task : Task) (first : World) (units : ℕ) where
+  -- a row waits for what it asked
+  abbrev Waits : World → List Kept → ℕ → Task → Type 0
+  Waits w stack left asked = (below : List Kept) × (kept : Kept) × (stack ≡ below ++ kept ∷ []) × IsOnItsWay task first units w below left (Ask asked kept)
+
+  ended-by : (w : World) (stack : List Kept) (left : ℕ) (r : Result Answer Fault) (step : Step Kept) (below : List Kept) → IsTaken step below stack (next.End r) → IsOnItsWay task first units w below left step → IsOnItsWay task first units w stack left (End r)
+  ended-by w stack left r (Ask asked kept) below taken way = absurd taken
+  ended-by w stack left r (End s) below taken way =
+      subst (λ ks. IsOnItsWay task first units w ks left (End r)) (sym taken.1) (subst (λ s. IsOnItsWay task first units w below left (End s)) (sym taken.0) way)
+
+  waits-by : (w : World) (stack : List Kept) (left : ℕ) (asked : Task) (step : Step Kept) (below : List Kept) → IsTaken step below stack (next.Ask asked) → IsOnItsWay task first units w below left step → Waits w stack left asked
+  waits-by w stack left asked (Ask other kept) below taken way = (below, kept, taken.1, subst (λ a. IsOnItsWay task first units w below left (Ask a kept)) (sym taken.0) way)
+  waits-by w stack left asked (End s) below taken way = absurd taken
+
+  pub ended : (w : World) (stack : List Kept) (left : ℕ) (r : Result Answer Fault) → IsUnderWay task first units w stack left (next.End r) → IsOnItsWay task first units w stack left (End r)
+  ended w stack left r way = ended-by w stack left r way.0 way.1 way.2 way.3
+
+  waits : (w : World) (stack : List Kept) (left : ℕ) (asked : Task) → IsUnderWay task first units w stack left (next.Ask asked) → Waits w stack left asked
+  waits w stack left asked way = waits-by w stack left asked way.0 way.1 way.2 way.3
+
+  pub under-way : (new : World) (stack : List Kept) (to : Next) → Comes (IsFirst task first new) [] stack to → IsUnderWay task first units new stack units to
+  under-way new stack to h = (h.0, [], h.2, record {
+    outcome = λ t reads. ((h.1.0 t reads).0, state-first t first new task units h.0 h.1.0 reads);
+    lasts = h.1.1.0;
+    bodies = let b = h.1.1.1.1 in omega (arith, b);
+    frames = tt;
+    claims = h.1.1.1.0;
+  })
+
+  pub resumed-next : (w new : World) (rest stack : List Kept) (kept : Kept) (r : Result Answer Fault) (left : ℕ) (to : Next) → IsUnderWay task first units w (rest ++ kept ∷ []) left (next.End r) → Comes (IsNext kept r w new) rest stack to → IsUnderWay task first units new stack left to
+  resumed-next w new rest stack kept r left to way h =
+      (h.0, rest, h.2, resumed task first units w new rest kept r left h.0 (ended w (rest ++ kept ∷ []) left r way) h.1.0 h.1.1)
+
+  pub began-next : (w new : World) (stack above : List Kept) (asked : Task) (left rest : ℕ) (to : Next) → left ≡ suc rest → IsUnderWay task first units w stack left (next.Ask asked) → Comes (IsFirstAbove (length stack) asked w new) stack above to → IsUnderWay task first units new above rest to
+  began-next w new stack above asked left rest to more way h =
+      let q = waits w stack left asked way in
+      let same = ap length q.2 in
+      let longer = length-append q.0 (q.1 ∷ []) in
+      let deep : length stack ≡ suc (length q.0) = omega (arith, same, longer) in
+      (h.0, stack, h.2, subst (λ ks. IsOnItsWay task first units new ks rest h.0) (sym q.2) (began task first units w new q.0 asked q.1 left rest (length stack) h.0 more deep q.3 h.1.0 h.1.1))
+
+  -- what is asked is all there
+  pub asked-holds : (w : World) (stack : List Kept) (left : ℕ) (asked : Task) → IsUnderWay task first units w stack left (next.Ask asked) → AllHold w (of_task asked)
+  asked-holds w stack left asked way = let q = waits w stack left asked way in all-first w (of_task asked) (of_kept q.1) q.3.claims
+
+  pub spent-next : (w : World) (stack : List Kept) (asked : Task) → IsUnderWay task first units w stack 0 (next.Ask asked) → Reaches task first units w code.NoUnits
+  spent-next w stack asked way = let q = waits w stack 0 asked way in spent task first units w q.0 asked q.1 q.3
+
+  pub runs-on : (w : World) (stack : List Kept) (left : ℕ) (to : Next) → IsUnderWay task first units w stack left to → EndsDeep first w code.NoUnits
+  runs-on w stack left to way = let b = way.3.bodies in omega (arith, b)

@@ -1,10 +1,12 @@
 -- What a stack of frames comes to, in the terms of `reach`.
-use Rattle.vm_eval.specs.Below.{ℕ, zero, suc, List, [], length, map, sum_by, Task, Step, Ask, End, PlainWorld, PlainTask, Answered, Ending, Over, NoUnits, Outcome, Out, carry, asked, reach, answer, Pending, World, Held, Reading, Reads, plain, task_of, ended_of, Claim, AllHold, Lasts, of_each, of_step, of_ended, left_open}
+use Rattle.vm_eval.specs.Below.{ℕ, zero, suc, List, [], length, map, sum_by, Ok, Result, Raised as Fault, Answer, Task, Step, Ask, End, PlainWorld, PlainTask, Answered, Ending, Over, NoUnits, Outcome, Out, carry, asked, reach, answer, Pending, World, Held, Reading, Reads, plain, task_of, ended_of, Claim, AllHold, Lasts, LeavesOpen, of_each, of_step, of_ended, left_open}
 use Rattle.std.specs.Prelude.{◌≡◌, ◌+◌, ◌≤◌, ◌∷◌, ◌++◌}
 use Rattle.vm_eval.specs.declared.stack.Kept.{Kept}
 use Rattle.vm_eval.specs.declared.stack.End.{End as CodeEnd}
 use Rattle.vm_eval.specs.declared.stack.End.TheVariants as code
-use Rattle.vm_eval.specs.Say.{say, stands, of_kept, bodies_in}
+use Rattle.vm_eval.specs.declared.stack.Next.{Next}
+use Rattle.vm_eval.specs.declared.stack.Next.TheVariants as next
+use Rattle.vm_eval.specs.Say.{say, stands, of_kept, bodies_in, Begins, Resumes}
 
 -- a row's outcome, from the outcome of what it asked
 abbrev pub finish : Pending PlainTask → ℕ → Outcome → Outcome
@@ -25,6 +27,29 @@ coming t (Ask task kept) w (suc left) depth = finish (stands t kept) depth (aske
 abbrev pub BeginsAt : ℕ → Task → World → World → Step Kept → Type 0
 BeginsAt depth task old new step =
     (t : Reading) → Reads t new → Reads t old × ((left : ℕ) → asked (reach say) (plain t old) (task_of t task) left depth ≡ coming t step (plain t new) left depth)
+
+-- a step is taken so: what is kept goes on top of the stack
+abbrev pub IsTaken : Step Kept → List Kept → List Kept → Next → Type 0
+IsTaken (Ask asked kept) below stack (next.Ask task) = (task ≡ asked) × (stack ≡ below ++ kept ∷ [])
+IsTaken (Ask asked kept) below stack (next.End r) = ⊥
+IsTaken (End r) below stack (next.Ask task) = ⊥
+IsTaken (End r) below stack (next.End s) = (s ≡ r) × (stack ≡ below)
+
+-- a row comes to a step of which this holds, and which is taken
+abbrev pub Comes : (Step Kept → Type 0) → List Kept → List Kept → Next → Type 0
+Comes Is below stack next = (step : Step Kept) × Is step × IsTaken step below stack next
+
+-- the first step of a task
+abbrev pub IsFirst : Task → World → World → Step Kept → Type 0
+IsFirst task old new step = Begins task old new step × LeavesOpen of_kept bodies_in 0 old new (Ok step)
+
+-- the first step of a task that a row asked, at so great a depth
+abbrev pub IsFirstAbove : ℕ → Task → World → World → Step Kept → Type 0
+IsFirstAbove depth task old new step = BeginsAt depth task old new step × LeavesOpen of_kept bodies_in 0 old new (Ok step)
+
+-- the next step of a row that was given an answer
+abbrev pub IsNext : Kept → Result Answer Fault → World → World → Step Kept → Type 0
+IsNext kept r old new step = Resumes kept r old new step × LeavesOpen of_kept bodies_in (bodies_in kept) old new (Ok step)
 
 -- the outcome that the machine is on its way to
 unfoldable pub state : Reading → World → List Kept → ℕ → Step Kept → Outcome
@@ -60,6 +85,16 @@ pub record IsOnItsWay (task : Task) (first : World) (units : ℕ) (w : World) (s
   pub bodies : RunsAbove (length first.scopes) w stack step
   pub frames : AllHold w (of_each of_kept stack)
   pub claims : AllHold w (of_step of_kept step)
+
+-- the same, where the step was taken
+abbrev pub IsUnderWay : Task → World → ℕ → World → List Kept → ℕ → Next → Type 0
+IsUnderWay task first units w stack left next =
+    (step : Step Kept) × (below : List Kept) × IsTaken step below stack next × IsOnItsWay task first units w below left step
+
+-- how many turns more there are than two for each unit and one for each frame
+abbrev pub turns_more : Next → ℕ
+turns_more (next.Ask task) = 0
+turns_more (next.End r) = 1
 
 -- as many bodies run as before
 abbrev pub AsDeep : Held → Held → Type 0

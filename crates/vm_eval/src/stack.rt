@@ -1,10 +1,8 @@
 //! The stack of frames: one turn at a time, until a task is answered or its units are used up.
 
-ghost use Rattle.vm_eval.specs.Below.{[], IfOk, OnOk, vec_capacity, AllHold, Lasts, of_task, of_protocol_task, of_ended, of_step, left_open, LeavesOpen, of_eval_kept, of_attribute_kept, of_descriptor_kept, of_call_kept, bodies_of, of_class_kept, of_operator_kept, of_compare_kept, of_number_kept, of_iter_kept, of_items_kept, of_object_kept};
+ghost use Rattle.vm_eval.specs.Below.{[], length, IfOk, OnOk, vec_capacity, AllHold, Lasts, of_task, of_ended, raised};
 ghost use Rattle.std.specs.Prelude.{◌≡◌, ◌≤◌, ◌∷◌, ◌++◌};
-ghost use Rattle.vm_eval.specs.OfNatives.Rows.{of_natives_kept};
-ghost use Rattle.vm_eval.specs.Say.{Begins, Resumes, step_among, of_kept, bodies_in};
-ghost use Rattle.vm_eval.specs.Stack.{Answers, BeginsAt, Reaches, AsDeep, EndsDeep, of_end};
+ghost use Rattle.vm_eval.specs.Stack.{Answers, Comes, IsFirstAbove, IsTaken, Reaches, AsDeep, EndsDeep, of_end};
 
 use crate::first_steps::begin;
 use crate::natives::NativesKept;
@@ -50,16 +48,25 @@ pub enum End {
     NoUnits,
 }
 
-// The first step of a task that a row asked, at so great a depth.
-fn begin_at(world: &mut World, depth: usize, task: Task) -> Result<Step<Kept>, OutOfMemory>
-    requires { AllHold world.old (of_task task) }
-    ensures goes { IfOk result (λ step. BeginsAt depth task world.old world.new step) }
-    ensures safe { LeavesOpen of_kept bodies_in 0 world.old world.new result }
+/// What a task comes to: what its row asks, where what the row keeps is on top of the stack, or its end.
+#[derive(Drop)]
+pub enum Next {
+    Ask(Task),
+    End(Result<Answer, Raised>),
+}
+
+// A step is taken: what is kept goes on top of the stack.
+#[inline(always)]
+pub(crate) fn take(stack: &mut Vec<Kept>, step: Step<Kept>) -> Result<Next, OutOfMemory>
+    ensures taken { IfOk result (λ next. IsTaken step stack.old.items stack.new.items next) }
+    ensures room { vec_capacity stack.old ≤ vec_capacity stack.new }
 {
-    if depth < DEPTH {
-        begin(world, task)
-    } else {
-        Ok(Step::raise(Cause::DepthLimit))
+    match step {
+        Step::Ask(asked, kept) => match push(stack, kept) {
+            Ok(()) => Ok(Next::Ask(asked)),
+            Err(_) => Err(unasked(asked)),
+        },
+        Step::End(answer) => Ok(Next::End(answer)),
     }
 }
 
@@ -72,27 +79,43 @@ fn push(stack: &mut Vec<Kept>, kept: Kept) -> Result<(), OutOfMemory>
     Ok(())
 }
 
-// A task that may not go on is let go.
+// What is asked is let go where memory runs out.
 #[cold]
 #[inline(never)]
-fn stopped(_asked: Task, _kept: Kept) -> End
+fn unasked(_asked: Task) -> OutOfMemory {
+    OutOfMemory
+}
+
+// The first step of a task that a row asked, whose frame is on top of the stack.
+fn begin_above(world: &mut World, stack: &mut Vec<Kept>, task: Task) -> Result<Next, OutOfMemory>
+    requires { AllHold world.old (of_task task) }
+    ensures goes { IfOk result (λ next. Comes (IsFirstAbove (length stack.old.items) task world.old world.new) stack.old.items stack.new.items next) }
+    ensures lasts { Lasts world.old world.new }
+    ensures room { vec_capacity stack.old ≤ vec_capacity stack.new }
+{
+    if stack.len() < DEPTH {
+        begin(world, stack, task)
+    } else {
+        Ok(Next::End(Err(too_deep(task))))
+    }
+}
+
+// A task that stands too deep is let go.
+#[cold]
+#[inline(never)]
+fn too_deep(_task: Task) -> Raised
+    ensures { result ≡ raised Cause.DepthLimit }
+{
+    Raised::new(Cause::DepthLimit)
+}
+
+// A task for which no unit is left is let go.
+#[cold]
+#[inline(never)]
+fn unpaid(_asked: Task) -> End
     ensures { result ≡ End.NoUnits }
 {
     End::NoUnits
-}
-
-// What is kept is let go where memory ran out.
-#[cold]
-#[inline(never)]
-fn unfinished(_kept: Kept) -> OutOfMemory {
-    OutOfMemory
-}
-
-// What is asked and kept is let go where memory ran out.
-#[cold]
-#[inline(never)]
-fn unasked(_asked: Task, _kept: Kept) -> OutOfMemory {
-    OutOfMemory
 }
 
 // How a task ends that may use so many units, on a stack that is empty. As many bodies run as before.
@@ -119,8 +142,8 @@ pub(crate) fn drive(
     }
 }
 
-// The turns of a task, on a stack that is empty: an answer goes to the frame on top, and what a row asks begins above it. Where
-// that ends with its first step, the row goes on at once, and needs no frame.
+// The turns of a task, on a stack that is empty: an answer goes to the frame on top, and what a row asks begins above its
+// frame.
 fn take_turns(
     world: &mut World,
     stack: &mut Vec<Kept>,
@@ -136,26 +159,19 @@ fn take_turns(
 {
     stack.clear();
     let mut left = units;
-    let mut step = begin(world, task)?;
+    let mut next = begin(world, stack, task)?;
     'turns: loop {
-        match step {
-            Step::End(answer) => match stack.pop() {
+        match next {
+            Next::End(answer) => match stack.pop() {
                 None => return Ok(End::Over(answer)),
-                Some(kept) => step = resume(world, kept, answer)?,
+                Some(kept) => next = resume(world, stack, kept, answer)?,
             },
-            Step::Ask(asked, kept) => {
+            Next::Ask(asked) => {
                 if left == 0 {
-                    return Ok(stopped(asked, kept));
+                    return Ok(unpaid(asked));
                 }
                 left -= 1;
-                match begin_at(world, stack.len() + 1, asked) {
-                    Err(_) => return Err(unfinished(kept)),
-                    Ok(Step::End(answer)) => step = resume(world, kept, answer)?,
-                    Ok(Step::Ask(next, above)) => match push(stack, kept) {
-                        Err(_) => return Err(unasked(next, above)),
-                        Ok(()) => step = Step::Ask(next, above),
-                    },
-                }
+                next = begin_above(world, stack, asked)?;
             }
         }
     }
