@@ -1,6 +1,7 @@
 -- The words that the lemmas of this crate are written in: its own definitions, and words and lemmas of crates below.
 pub use Rattle.class_world.proofs.Claims.{all-first, all-last, all-rest, each-pop, each-push}
 pub use Rattle.class_world.proofs.Growth.{lasts-on}
+pub use Rattle.class_world.proofs.Leaves.{leaves-among, leaves-open}
 pub use Rattle.class_world.specs.Reading.{Reading, Reads, bindings, ended_of, scope_of, task_of}
 unfoldable pub use Rattle.class_world.specs.Reading.{plain}
 pub use Rattle.class_world.specs.Rows.{EndsAs, Goes, Steps}
@@ -36,7 +37,7 @@ pub use Rattle.std.proofs.Common.{List, Ok, Result, [], ap, arith, cond, drop, f
 pub use Rattle.std.proofs.lemmas.Bool.{le-ltb, lt-ltb}
 pub use Rattle.std.proofs.lemmas.List.{length-map, map-append}
 pub use Rattle.std.proofs.lemmas.List.Sums.{sum_by_push}
-pub use Rattle.vm_eval.specs.Below.{AllHold, Answer, Ask, End, Err, Grows, Held, IfOk, Lasts, LeavesOpen, NativeEntry, PyObjectRef, PyStrInterned, Raised, Step, Task, Tree, World, asking_stands, attribute_say, attribute_stands, call_job_say, call_stands, class_job_say, class_stands, compare_job_say, compare_stands, compared_stands, descriptor_say, descriptor_stands, detail_stands, eval_say, eval_stands, item_stands, items_job_say, items_stands, iter_job_say, number_job_say, number_stands, object_job_say, object_stands, of_each, of_step, of_task, operator_say, operator_stands, parts_stands, repeat_stands, vec_capacity, without_calls}
+pub use Rattle.vm_eval.specs.Below.{AllHold, Answer, Claim, Ask, End, Err, Grows, Held, IfOk, Lasts, Leaves, LeavesOpen, NativeEntry, PyObjectRef, PyStrInterned, Raised, Step, Task, Tree, World, asking_stands, attribute_say, attribute_stands, call_job_say, call_stands, class_job_say, class_stands, compare_job_say, compare_stands, compared_stands, descriptor_say, descriptor_stands, detail_stands, eval_say, eval_stands, item_stands, items_job_say, items_stands, iter_job_say, left_open, number_job_say, number_stands, object_job_say, object_stands, of_each, of_step, of_task, operator_say, operator_stands, parts_stands, repeat_stands, vec_capacity, without_calls}
 pub use Rattle.vm_eval.specs.OfNatives.Rows.{as_job, job_of, kept_among, native_job, natives_stands}
 pub use Rattle.vm_eval.specs.OfNatives.Say.{NativeJob, by_family, family_of, native_by}
 unfoldable pub use Rattle.vm_eval.specs.OfNatives.Say.{native_job_say}

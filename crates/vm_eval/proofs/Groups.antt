@@ -1,5 +1,5 @@
 -- What a group's row says is what the row says among all.
-use Rattle.vm_eval.proofs.Below.{[], sym, ap, subst, ◌∙◌, refl, Result, Raised as Fault, PyObjectRef, Answer, Step, Ask, End, PlainWorld, PlainTask, ToEval, ToAttribute, ToDescriptor, ToCall, ToClass, ToOperator, ToCompare, ToProtocol, ToObject, ProtocolJob, Answered, Told, Said, Asks, Ends, Saying, Pending, Alike, fresh, given, World, Reading, plain, ended_of, Steps, Goes, eval_say, eval_stands, attribute_say, attribute_stands, descriptor_say, descriptor_stands, call_job_say, call_stands, class_job_say, class_stands, operator_say, operator_stands, compare_job_say, compare_stands, number_job_say, NumberKept, Pass, AfterBool, AfterLength, AfterIndex, AfterInt, AfterTruncate, AfterIndexOf, AfterLen, Measured, Expected, Called, number_stands, iter_job_say, IterKept, Search, iter_stands, search_job, items_job_say, ItemsKept, items_stands, object_job_say, object_stands, native_job_say, natives_stands, Kept, ForEval, ForAttribute, ForDescriptor, ForCall, ForClass, ForOperator, ForCompare, ForNumber, ForIteration, ForItems, ForObject, ForNative, Branch, say, stands, among, step_among, by_branch, branch_of, to_native, Resumes}
+use Rattle.vm_eval.proofs.Below.{[], sym, ap, subst, ◌∙◌, refl, Result, Raised as Fault, PyObjectRef, Answer, Step, Ask, End, PlainWorld, PlainTask, ToEval, ToAttribute, ToDescriptor, ToCall, ToClass, ToOperator, ToCompare, ToProtocol, ToObject, ProtocolJob, Answered, Told, Said, Asks, Ends, Saying, Pending, Alike, fresh, given, World, Reading, plain, ended_of, ℕ, Ok, Claim, of_step, of_task, of_kept, bodies_in, left_open, Leaves, LeavesOpen, leaves-among, leaves-open, Steps, Goes, eval_say, eval_stands, attribute_say, attribute_stands, descriptor_say, descriptor_stands, call_job_say, call_stands, class_job_say, class_stands, operator_say, operator_stands, compare_job_say, compare_stands, number_job_say, NumberKept, Pass, AfterBool, AfterLength, AfterIndex, AfterInt, AfterTruncate, AfterIndexOf, AfterLen, Measured, Expected, Called, number_stands, iter_job_say, IterKept, Search, iter_stands, search_job, items_job_say, ItemsKept, items_stands, object_job_say, object_stands, native_job_say, natives_stands, Kept, ForEval, ForAttribute, ForDescriptor, ForCall, ForClass, ForOperator, ForCompare, ForNumber, ForIteration, ForItems, ForObject, ForNative, Branch, say, stands, among, step_among, by_branch, branch_of, to_native, Resumes}
 use Rattle.std.proofs.Common.{◌≡◌, ◌∷◌, ◌++◌}
 use Rattle.proto_object.specs.declared.proto_iter.IterKept.TheVariants as iter
 use Rattle.proto_object.specs.declared.proto_iter.seek.Search.TheVariants as search
@@ -38,13 +38,34 @@ module _ {J K : Type 0} (group : Saying J) (held : Reading → K → Pending J) 
       )
 
   -- a task of the group begins so among all
-  pub begins-among : (job : Reading → J) (old new : World) (step : Step K) (next : Step Kept) → ((t : Reading) → own (job t)) → next ≡ step_among for step → Goes group held (λ t. fresh (job t)) old new step → Goes say stands (λ t. fresh (to (job t))) old new next
-  begins-among job old new step next i same h = subst (Goes say stands (λ t. fresh (to (job t))) old new) (sym same) (goes-among (λ t. fresh (job t)) old new step i h)
+  pub begins-among : (job : Reading → J) (old new : World) (step : Step K) → ((t : Reading) → own (job t)) → Goes group held (λ t. fresh (job t)) old new step → Goes say stands (λ t. fresh (to (job t))) old new (step_among for step)
+  begins-among job old new step i h = goes-among (λ t. fresh (job t)) old new step i h
 
   -- and what is kept of it goes on so
-  pub resumes-among : (full : Kept) (kept : K) (r : Result Answer Fault) (old new : World) (step : Step K) (next : Step Kept) → full ≡ for kept → next ≡ step_among for step → Goes group held (λ t. given (held t kept) (ended_of r)) old new step → Resumes full r old new next
-  resumes-among full kept r old new step next is same h =
-      subst (λ full. Resumes full r old new next) (sym is) (subst (Resumes (for kept) r old new) (sym same) (kept-among kept r old new step h))
+  pub resumes-among : (kept : K) (r : Result Answer Fault) (old new : World) (step : Step K) → Goes group held (λ t. given (held t kept) (ended_of r)) old new step → Resumes (for kept) r old new (step_among for step)
+  resumes-among kept r old new step h = kept-among kept r old new step h
+
+-- what a group's row leaves is what the row leaves among all
+module _ {K : Type 0} (for : K → Kept) (of_group : K → List Claim) (same : (k : K) → of_kept (for k) ≡ of_group k) where
+  says-among : (step : Step K) → of_step of_kept (step_among for step) ≡ of_step of_group step
+  says-among (Ask asked kept) = ap (λ cs. of_task asked ++ cs) (same kept)
+  says-among (End r) = refl
+
+  opens-among : (there : K → ℕ) → ((k : K) → bodies_in (for k) ≡ there k) → (step : Step K) → left_open bodies_in (step_among for step) ≡ left_open there step
+  opens-among there opens (Ask asked kept) = opens kept
+  opens-among there opens (End r) = refl
+
+  none-open : ((k : K) → bodies_in (for k) ≡ 0) → (step : Step K) → left_open bodies_in (step_among for step) ≡ 0
+  none-open opens (Ask asked kept) = opens kept
+  none-open opens (End r) = refl
+
+  -- of a group that begins no body
+  pub leaves-as : (before : ℕ) (old new : World) (step : Step K) → before ≡ 0 → ((k : K) → bodies_in (for k) ≡ 0) → Leaves of_group old new (Ok step) → LeavesOpen of_kept bodies_in before old new (Ok (step_among for step))
+  leaves-as before old new step none opens h = leaves-among of_kept bodies_in of_group before old new step (step_among for step) none (says-among step) (none-open opens step) h
+
+  -- of a group that may begin one
+  pub leaves-open-as : (there : K → ℕ) (before : ℕ) (old new : World) (step : Step K) → ((k : K) → bodies_in (for k) ≡ there k) → LeavesOpen of_group there before old new (Ok step) → LeavesOpen of_kept bodies_in before old new (Ok (step_among for step))
+  leaves-open-as there before old new step opens h = leaves-open of_kept bodies_in of_group there before before old new step (step_among for step) refl (says-among step) (opens-among there opens step) h
 
 -- most groups are for all their jobs
 abbrev pub Any : {J : Type 0} → J → Type 0

@@ -152,10 +152,14 @@ module _ (task : Task) (first : World) (units : ℕ) where
   pub spent : (w : World) (stack : List Kept) (asked : Task) (kept : Kept) → IsOnItsWay task first units w stack 0 (Ask asked kept) → Reaches task first units w code.NoUnits
   spent w stack asked kept way = λ t reads. let o = way.outcome t reads in (o.0, 0, sym (state-no_units t w stack asked kept ∙ o.1))
 
--- a step that is taken
-pub comes : {E : Type 0} (Is : Step Kept → Type 0) (below stack : List Kept) (step : Step Kept) (o : Result Next E) → Is step → IfOk o (λ to. IsTaken step below stack to) → IfOk o (λ to. Comes Is below stack to)
-comes Is below stack step (Ok to) is taken = (step, is, taken)
-comes Is below stack step (Err e) is taken = tt
+-- a row asks, and what it keeps goes on top of the stack
+pub waits-on : {E : Type 0} (Is : Step Kept → Type 0) (below stack : List Kept) (asked : Task) (kept : Kept) (o : Result Next E) → Is (Ask asked kept) → IfOk o (λ to. (to ≡ next.Ask asked) × (stack ≡ below ++ kept ∷ [])) → IfOk o (λ to. Comes Is below stack to)
+waits-on Is below stack asked kept (Ok to) is h = (Ask asked kept, is, subst (IsTaken (Ask asked kept) below stack) (sym h.0) (refl, h.1))
+waits-on Is below stack asked kept (Err e) is h = tt
+
+-- a row ends
+pub ends-there : (Is : Step Kept → Type 0) (stack : List Kept) (r : Result Answer Fault) → Is (End r) → Comes Is stack stack (next.End r)
+ends-there Is stack r is = (End r, is, refl, refl)
 
 -- the machine stays on its way, where each step is taken
 module _ (task : Task) (first : World) (units : ℕ) where
@@ -179,13 +183,18 @@ module _ (task : Task) (first : World) (units : ℕ) where
   waits w stack left asked way = waits-by w stack left asked way.0 way.1 way.2 way.3
 
   pub under-way : (new : World) (stack : List Kept) (to : Next) → Comes (IsFirst task first new) [] stack to → IsUnderWay task first units new stack units to
-  under-way new stack to h = (h.0, [], h.2, record {
-    outcome = λ t reads. ((h.1.0 t reads).0, state-first t first new task units h.0 h.1.0 reads);
-    lasts = h.1.1.0;
-    bodies = let b = h.1.1.1.1 in omega (arith, b);
-    frames = tt;
-    claims = h.1.1.1.0;
-  })
+  under-way new stack to h = (
+    h.0,
+    [],
+    h.2,
+    record {
+      outcome = λ t reads. ((h.1.0 t reads).0, state-first t first new task units h.0 h.1.0 reads);
+      lasts = h.1.1.0;
+      bodies = let b = h.1.1.1.1 in omega (arith, b);
+      frames = tt;
+      claims = h.1.1.1.0;
+    },
+  )
 
   pub resumed-next : (w new : World) (rest stack : List Kept) (kept : Kept) (r : Result Answer Fault) (left : ℕ) (to : Next) → IsUnderWay task first units w (rest ++ kept ∷ []) left (next.End r) → Comes (IsNext kept r w new) rest stack to → IsUnderWay task first units new stack left to
   resumed-next w new rest stack kept r left to way h =

@@ -15,6 +15,5 @@ mod nodes;
 pub mod protocols;
 mod run;
 mod stack;
-mod steps;
 
 pub use machine::{RunFault, VirtualMachine};

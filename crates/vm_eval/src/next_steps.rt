@@ -1,5 +1,5 @@
-//! The next step of a row that was given an answer. Each group has a function of its own, so that a step takes no more room
-//! than its group needs.
+//! The next step of a row that was given an answer. Each group has a function of its own, and each arm returns by itself: a step
+//! is then written once, and takes no more room than its group needs.
 
 ghost use Rattle.vm_eval.specs.Below.{IfOk, AllHold, Lasts, of_ended, vec_capacity};
 ghost use Rattle.std.specs.Prelude.{◌≤◌};
@@ -7,11 +7,7 @@ ghost use Rattle.vm_eval.specs.Say.{of_kept};
 ghost use Rattle.vm_eval.specs.Stack.{Comes, IsNext};
 
 use crate::natives::NativesKept;
-use crate::stack::{Kept, Next, take};
-use crate::steps::{
-    of_attribute, of_call, of_class, of_compare, of_descriptor, of_eval, of_items, of_iteration,
-    of_native, of_number, of_object, of_operator,
-};
+use crate::stack::{Kept, Next, wait};
 use class_world::World;
 use proto_attr::AttributeKept;
 use proto_attr::proto_descr::DescriptorKept;
@@ -24,9 +20,9 @@ use proto_object::proto_iter::IterKept;
 use proto_object::proto_number::NumberKept;
 use proto_ops::OperatorKept;
 use proto_ops::proto_compare::CompareKept;
-use py_node::{Answer, OutOfMemory, Raised};
+use py_node::{Answer, OutOfMemory, Raised, Step};
 
-// The next step of a row that was given an answer.
+// The next step of a row: those of most rows are told apart first.
 pub(crate) fn resume(
     world: &mut World,
     stack: &mut Vec<Kept>,
@@ -35,23 +31,46 @@ pub(crate) fn resume(
 ) -> Result<Next, OutOfMemory>
     requires kept { AllHold world.old (of_kept kept) }
     requires answer { AllHold world.old (of_ended answer) }
-    ensures goes { IfOk result (λ next. Comes (IsNext kept answer world.old world.new) stack.old.items stack.new.items next) }
+    ensures goes { IfOk result (λ to. Comes (IsNext kept answer world.old world.new) stack.old.items stack.new.items to) }
     ensures lasts { Lasts world.old world.new }
     ensures room { vec_capacity stack.old ≤ vec_capacity stack.new }
 {
     match kept {
-        Kept::ForEval(kept) => resume_eval(world, stack, kept, answer),
-        Kept::ForAttribute(kept) => resume_attribute(world, stack, kept, answer),
-        Kept::ForDescriptor(kept) => resume_descriptor(world, stack, kept, answer),
-        Kept::ForCall(kept) => resume_call(world, stack, kept, answer),
-        Kept::ForClass(kept) => resume_class(world, stack, kept, answer),
-        Kept::ForOperator(kept) => resume_operator(world, stack, kept, answer),
-        Kept::ForCompare(kept) => resume_compare(world, stack, kept, answer),
-        Kept::ForNumber(kept) => resume_number(world, stack, kept, answer),
-        Kept::ForIteration(kept) => resume_iteration(world, stack, kept, answer),
-        Kept::ForItems(kept) => resume_items(world, stack, kept, answer),
-        Kept::ForObject(kept) => resume_object(world, stack, kept, answer),
-        Kept::ForNative(kept) => resume_native(world, stack, kept, answer),
+        Kept::ForEval(kept) => return resume_eval(world, stack, kept, answer),
+        Kept::ForAttribute(kept) => return resume_attribute(world, stack, kept, answer),
+        Kept::ForCall(kept) => return resume_call(world, stack, kept, answer),
+        Kept::ForOperator(kept) => return resume_operator(world, stack, kept, answer),
+        rest => return resume_rare(world, stack, rest, answer),
+    }
+}
+
+// The next step of any row.
+#[inline(never)]
+fn resume_rare(
+    world: &mut World,
+    stack: &mut Vec<Kept>,
+    kept: Kept,
+    answer: Result<Answer, Raised>,
+) -> Result<Next, OutOfMemory>
+    requires kept { AllHold world.old (of_kept kept) }
+    requires answer { AllHold world.old (of_ended answer) }
+    ensures goes { IfOk result (λ to. Comes (IsNext kept answer world.old world.new) stack.old.items stack.new.items to) }
+    ensures lasts { Lasts world.old world.new }
+    ensures room { vec_capacity stack.old ≤ vec_capacity stack.new }
+{
+    match kept {
+        Kept::ForEval(kept) => return resume_eval(world, stack, kept, answer),
+        Kept::ForAttribute(kept) => return resume_attribute(world, stack, kept, answer),
+        Kept::ForDescriptor(kept) => return resume_descriptor(world, stack, kept, answer),
+        Kept::ForCall(kept) => return resume_call(world, stack, kept, answer),
+        Kept::ForClass(kept) => return resume_class(world, stack, kept, answer),
+        Kept::ForOperator(kept) => return resume_operator(world, stack, kept, answer),
+        Kept::ForCompare(kept) => return resume_compare(world, stack, kept, answer),
+        Kept::ForNumber(kept) => return resume_number(world, stack, kept, answer),
+        Kept::ForIteration(kept) => return resume_iteration(world, stack, kept, answer),
+        Kept::ForItems(kept) => return resume_items(world, stack, kept, answer),
+        Kept::ForObject(kept) => return resume_object(world, stack, kept, answer),
+        Kept::ForNative(kept) => return resume_native(world, stack, kept, answer),
     }
 }
 
@@ -65,12 +84,15 @@ fn resume_eval(
 ) -> Result<Next, OutOfMemory>
     requires kept { AllHold world.old (of_kept (Kept.ForEval kept)) }
     requires answer { AllHold world.old (of_ended answer) }
-    ensures goes { IfOk result (λ next. Comes (IsNext (Kept.ForEval kept) answer world.old world.new) stack.old.items stack.new.items next) }
+    ensures goes { IfOk result (λ to. Comes (IsNext (Kept.ForEval kept) answer world.old world.new) stack.old.items stack.new.items to) }
     ensures lasts { Lasts world.old world.new }
     ensures room { vec_capacity stack.old ≤ vec_capacity stack.new }
 {
-    let step = proto_call::eval_forms::resume(world, kept, answer)?;
-    take(stack, of_eval(step))
+    match proto_call::eval_forms::resume(world, kept, answer) {
+        Ok(Step::Ask(asked, kept)) => return wait(stack, Kept::ForEval(kept), asked),
+        Ok(Step::End(answer)) => return Ok(Next::End(answer)),
+        Err(error) => return Err(error),
+    }
 }
 
 // The next step of an attribute.
@@ -83,12 +105,15 @@ fn resume_attribute(
 ) -> Result<Next, OutOfMemory>
     requires kept { AllHold world.old (of_kept (Kept.ForAttribute kept)) }
     requires answer { AllHold world.old (of_ended answer) }
-    ensures goes { IfOk result (λ next. Comes (IsNext (Kept.ForAttribute kept) answer world.old world.new) stack.old.items stack.new.items next) }
+    ensures goes { IfOk result (λ to. Comes (IsNext (Kept.ForAttribute kept) answer world.old world.new) stack.old.items stack.new.items to) }
     ensures lasts { Lasts world.old world.new }
     ensures room { vec_capacity stack.old ≤ vec_capacity stack.new }
 {
-    let step = proto_attr::resume(world, kept, answer)?;
-    take(stack, of_attribute(step))
+    match proto_attr::resume(world, kept, answer) {
+        Ok(Step::Ask(asked, kept)) => return wait(stack, Kept::ForAttribute(kept), asked),
+        Ok(Step::End(answer)) => return Ok(Next::End(answer)),
+        Err(error) => return Err(error),
+    }
 }
 
 // The next step of a descriptor.
@@ -101,12 +126,15 @@ fn resume_descriptor(
 ) -> Result<Next, OutOfMemory>
     requires kept { AllHold world.old (of_kept (Kept.ForDescriptor kept)) }
     requires answer { AllHold world.old (of_ended answer) }
-    ensures goes { IfOk result (λ next. Comes (IsNext (Kept.ForDescriptor kept) answer world.old world.new) stack.old.items stack.new.items next) }
+    ensures goes { IfOk result (λ to. Comes (IsNext (Kept.ForDescriptor kept) answer world.old world.new) stack.old.items stack.new.items to) }
     ensures lasts { Lasts world.old world.new }
     ensures room { vec_capacity stack.old ≤ vec_capacity stack.new }
 {
-    let step = proto_attr::proto_descr::resume(world, kept, answer)?;
-    take(stack, of_descriptor(step))
+    match proto_attr::proto_descr::resume(world, kept, answer) {
+        Ok(Step::Ask(asked, kept)) => return wait(stack, Kept::ForDescriptor(kept), asked),
+        Ok(Step::End(answer)) => return Ok(Next::End(answer)),
+        Err(error) => return Err(error),
+    }
 }
 
 // The next step of a call.
@@ -119,12 +147,15 @@ fn resume_call(
 ) -> Result<Next, OutOfMemory>
     requires kept { AllHold world.old (of_kept (Kept.ForCall kept)) }
     requires answer { AllHold world.old (of_ended answer) }
-    ensures goes { IfOk result (λ next. Comes (IsNext (Kept.ForCall kept) answer world.old world.new) stack.old.items stack.new.items next) }
+    ensures goes { IfOk result (λ to. Comes (IsNext (Kept.ForCall kept) answer world.old world.new) stack.old.items stack.new.items to) }
     ensures lasts { Lasts world.old world.new }
     ensures room { vec_capacity stack.old ≤ vec_capacity stack.new }
 {
-    let step = proto_call::resume(world, kept, answer)?;
-    take(stack, of_call(step))
+    match proto_call::resume(world, kept, answer) {
+        Ok(Step::Ask(asked, kept)) => return wait(stack, Kept::ForCall(kept), asked),
+        Ok(Step::End(answer)) => return Ok(Next::End(answer)),
+        Err(error) => return Err(error),
+    }
 }
 
 // The next step of the creation of a class.
@@ -137,12 +168,15 @@ fn resume_class(
 ) -> Result<Next, OutOfMemory>
     requires kept { AllHold world.old (of_kept (Kept.ForClass kept)) }
     requires answer { AllHold world.old (of_ended answer) }
-    ensures goes { IfOk result (λ next. Comes (IsNext (Kept.ForClass kept) answer world.old world.new) stack.old.items stack.new.items next) }
+    ensures goes { IfOk result (λ to. Comes (IsNext (Kept.ForClass kept) answer world.old world.new) stack.old.items stack.new.items to) }
     ensures lasts { Lasts world.old world.new }
     ensures room { vec_capacity stack.old ≤ vec_capacity stack.new }
 {
-    let step = proto_call::class_make::resume(world, kept, answer)?;
-    take(stack, of_class(step))
+    match proto_call::class_make::resume(world, kept, answer) {
+        Ok(Step::Ask(asked, kept)) => return wait(stack, Kept::ForClass(kept), asked),
+        Ok(Step::End(answer)) => return Ok(Next::End(answer)),
+        Err(error) => return Err(error),
+    }
 }
 
 // The next step of an operator.
@@ -155,12 +189,15 @@ fn resume_operator(
 ) -> Result<Next, OutOfMemory>
     requires kept { AllHold world.old (of_kept (Kept.ForOperator kept)) }
     requires answer { AllHold world.old (of_ended answer) }
-    ensures goes { IfOk result (λ next. Comes (IsNext (Kept.ForOperator kept) answer world.old world.new) stack.old.items stack.new.items next) }
+    ensures goes { IfOk result (λ to. Comes (IsNext (Kept.ForOperator kept) answer world.old world.new) stack.old.items stack.new.items to) }
     ensures lasts { Lasts world.old world.new }
     ensures room { vec_capacity stack.old ≤ vec_capacity stack.new }
 {
-    let step = proto_ops::resume(world, kept, answer)?;
-    take(stack, of_operator(step))
+    match proto_ops::resume(world, kept, answer) {
+        Ok(Step::Ask(asked, kept)) => return wait(stack, Kept::ForOperator(kept), asked),
+        Ok(Step::End(answer)) => return Ok(Next::End(answer)),
+        Err(error) => return Err(error),
+    }
 }
 
 // The next step of a comparison.
@@ -173,12 +210,15 @@ fn resume_compare(
 ) -> Result<Next, OutOfMemory>
     requires kept { AllHold world.old (of_kept (Kept.ForCompare kept)) }
     requires answer { AllHold world.old (of_ended answer) }
-    ensures goes { IfOk result (λ next. Comes (IsNext (Kept.ForCompare kept) answer world.old world.new) stack.old.items stack.new.items next) }
+    ensures goes { IfOk result (λ to. Comes (IsNext (Kept.ForCompare kept) answer world.old world.new) stack.old.items stack.new.items to) }
     ensures lasts { Lasts world.old world.new }
     ensures room { vec_capacity stack.old ≤ vec_capacity stack.new }
 {
-    let step = proto_ops::proto_compare::resume(world, kept, answer)?;
-    take(stack, of_compare(step))
+    match proto_ops::proto_compare::resume(world, kept, answer) {
+        Ok(Step::Ask(asked, kept)) => return wait(stack, Kept::ForCompare(kept), asked),
+        Ok(Step::End(answer)) => return Ok(Next::End(answer)),
+        Err(error) => return Err(error),
+    }
 }
 
 // The next step of a truth value, a number or a length.
@@ -191,12 +231,15 @@ fn resume_number(
 ) -> Result<Next, OutOfMemory>
     requires kept { AllHold world.old (of_kept (Kept.ForNumber kept)) }
     requires answer { AllHold world.old (of_ended answer) }
-    ensures goes { IfOk result (λ next. Comes (IsNext (Kept.ForNumber kept) answer world.old world.new) stack.old.items stack.new.items next) }
+    ensures goes { IfOk result (λ to. Comes (IsNext (Kept.ForNumber kept) answer world.old world.new) stack.old.items stack.new.items to) }
     ensures lasts { Lasts world.old world.new }
     ensures room { vec_capacity stack.old ≤ vec_capacity stack.new }
 {
-    let step = proto_object::proto_number::resume(world, kept, answer)?;
-    take(stack, of_number(step))
+    match proto_object::proto_number::resume(world, kept, answer) {
+        Ok(Step::Ask(asked, kept)) => return wait(stack, Kept::ForNumber(kept), asked),
+        Ok(Step::End(answer)) => return Ok(Next::End(answer)),
+        Err(error) => return Err(error),
+    }
 }
 
 // The next step of an iteration.
@@ -209,12 +252,15 @@ fn resume_iteration(
 ) -> Result<Next, OutOfMemory>
     requires kept { AllHold world.old (of_kept (Kept.ForIteration kept)) }
     requires answer { AllHold world.old (of_ended answer) }
-    ensures goes { IfOk result (λ next. Comes (IsNext (Kept.ForIteration kept) answer world.old world.new) stack.old.items stack.new.items next) }
+    ensures goes { IfOk result (λ to. Comes (IsNext (Kept.ForIteration kept) answer world.old world.new) stack.old.items stack.new.items to) }
     ensures lasts { Lasts world.old world.new }
     ensures room { vec_capacity stack.old ≤ vec_capacity stack.new }
 {
-    let step = proto_object::proto_iter::resume(world, kept, answer)?;
-    take(stack, of_iteration(step))
+    match proto_object::proto_iter::resume(world, kept, answer) {
+        Ok(Step::Ask(asked, kept)) => return wait(stack, Kept::ForIteration(kept), asked),
+        Ok(Step::End(answer)) => return Ok(Next::End(answer)),
+        Err(error) => return Err(error),
+    }
 }
 
 // The next step of items.
@@ -227,12 +273,15 @@ fn resume_items(
 ) -> Result<Next, OutOfMemory>
     requires kept { AllHold world.old (of_kept (Kept.ForItems kept)) }
     requires answer { AllHold world.old (of_ended answer) }
-    ensures goes { IfOk result (λ next. Comes (IsNext (Kept.ForItems kept) answer world.old world.new) stack.old.items stack.new.items next) }
+    ensures goes { IfOk result (λ to. Comes (IsNext (Kept.ForItems kept) answer world.old world.new) stack.old.items stack.new.items to) }
     ensures lasts { Lasts world.old world.new }
     ensures room { vec_capacity stack.old ≤ vec_capacity stack.new }
 {
-    let step = proto_object::proto_items::resume(world, kept, answer)?;
-    take(stack, of_items(step))
+    match proto_object::proto_items::resume(world, kept, answer) {
+        Ok(Step::Ask(asked, kept)) => return wait(stack, Kept::ForItems(kept), asked),
+        Ok(Step::End(answer)) => return Ok(Next::End(answer)),
+        Err(error) => return Err(error),
+    }
 }
 
 // The next step of what all objects can do.
@@ -245,12 +294,15 @@ fn resume_object(
 ) -> Result<Next, OutOfMemory>
     requires kept { AllHold world.old (of_kept (Kept.ForObject kept)) }
     requires answer { AllHold world.old (of_ended answer) }
-    ensures goes { IfOk result (λ next. Comes (IsNext (Kept.ForObject kept) answer world.old world.new) stack.old.items stack.new.items next) }
+    ensures goes { IfOk result (λ to. Comes (IsNext (Kept.ForObject kept) answer world.old world.new) stack.old.items stack.new.items to) }
     ensures lasts { Lasts world.old world.new }
     ensures room { vec_capacity stack.old ≤ vec_capacity stack.new }
 {
-    let step = proto_object::resume(world, kept, answer)?;
-    take(stack, of_object(step))
+    match proto_object::resume(world, kept, answer) {
+        Ok(Step::Ask(asked, kept)) => return wait(stack, Kept::ForObject(kept), asked),
+        Ok(Step::End(answer)) => return Ok(Next::End(answer)),
+        Err(error) => return Err(error),
+    }
 }
 
 // The next step of a native.
@@ -263,10 +315,13 @@ fn resume_native(
 ) -> Result<Next, OutOfMemory>
     requires kept { AllHold world.old (of_kept (Kept.ForNative kept)) }
     requires answer { AllHold world.old (of_ended answer) }
-    ensures goes { IfOk result (λ next. Comes (IsNext (Kept.ForNative kept) answer world.old world.new) stack.old.items stack.new.items next) }
+    ensures goes { IfOk result (λ to. Comes (IsNext (Kept.ForNative kept) answer world.old world.new) stack.old.items stack.new.items to) }
     ensures lasts { Lasts world.old world.new }
     ensures room { vec_capacity stack.old ≤ vec_capacity stack.new }
 {
-    let step = crate::natives::resume(world, kept, answer)?;
-    take(stack, of_native(step))
+    match crate::natives::resume(world, kept, answer) {
+        Ok(Step::Ask(asked, kept)) => return wait(stack, Kept::ForNative(kept), asked),
+        Ok(Step::End(answer)) => return Ok(Next::End(answer)),
+        Err(error) => return Err(error),
+    }
 }

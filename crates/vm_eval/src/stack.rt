@@ -2,7 +2,7 @@
 
 ghost use Rattle.vm_eval.specs.Below.{[], length, IfOk, OnOk, vec_capacity, AllHold, Lasts, of_task, of_ended, raised};
 ghost use Rattle.std.specs.Prelude.{◌≡◌, ◌≤◌, ◌∷◌, ◌++◌};
-ghost use Rattle.vm_eval.specs.Stack.{Answers, Comes, IsFirstAbove, IsTaken, Reaches, AsDeep, EndsDeep, of_end};
+ghost use Rattle.vm_eval.specs.Stack.{Answers, Comes, IsFirstAbove, Reaches, AsDeep, EndsDeep, of_end};
 
 use crate::first_steps::begin;
 use crate::natives::NativesKept;
@@ -55,28 +55,16 @@ pub enum Next {
     End(Result<Answer, Raised>),
 }
 
-// A step is taken: what is kept goes on top of the stack.
+// A row waits for a task: what it keeps goes on top of the stack.
 #[inline(always)]
-pub(crate) fn take(stack: &mut Vec<Kept>, step: Step<Kept>) -> Result<Next, OutOfMemory>
-    ensures taken { IfOk result (λ next. IsTaken step stack.old.items stack.new.items next) }
+pub(crate) fn wait(stack: &mut Vec<Kept>, kept: Kept, asked: Task) -> Result<Next, OutOfMemory>
+    ensures waits { IfOk result (λ to. (to ≡ Next.Ask asked) × (stack.new.items ≡ stack.old.items ++ kept ∷ [])) }
     ensures room { vec_capacity stack.old ≤ vec_capacity stack.new }
 {
-    match step {
-        Step::Ask(asked, kept) => match push(stack, kept) {
-            Ok(()) => Ok(Next::Ask(asked)),
-            Err(_) => Err(unasked(asked)),
-        },
-        Step::End(answer) => Ok(Next::End(answer)),
+    match stack.push(kept) {
+        Ok(()) => return Ok(Next::Ask(asked)),
+        Err(_) => return Err(unasked(asked)),
     }
-}
-
-// One more frame.
-fn push(stack: &mut Vec<Kept>, kept: Kept) -> Result<(), OutOfMemory>
-    ensures pushed { OnOk result (stack.new.items ≡ stack.old.items ++ kept ∷ []) }
-    ensures room { vec_capacity stack.old ≤ vec_capacity stack.new }
-{
-    stack.push(kept)?;
-    Ok(())
 }
 
 // What is asked is let go where memory runs out.
@@ -89,15 +77,14 @@ fn unasked(_asked: Task) -> OutOfMemory {
 // The first step of a task that a row asked, whose frame is on top of the stack.
 fn begin_above(world: &mut World, stack: &mut Vec<Kept>, task: Task) -> Result<Next, OutOfMemory>
     requires { AllHold world.old (of_task task) }
-    ensures goes { IfOk result (λ next. Comes (IsFirstAbove (length stack.old.items) task world.old world.new) stack.old.items stack.new.items next) }
+    ensures goes { IfOk result (λ to. Comes (IsFirstAbove (length stack.old.items) task world.old world.new) stack.old.items stack.new.items to) }
     ensures lasts { Lasts world.old world.new }
     ensures room { vec_capacity stack.old ≤ vec_capacity stack.new }
 {
     if stack.len() < DEPTH {
-        begin(world, stack, task)
-    } else {
-        Ok(Next::End(Err(too_deep(task))))
+        return begin(world, stack, task);
     }
+    Ok(Next::End(Err(too_deep(task))))
 }
 
 // A task that stands too deep is let go.

@@ -1,11 +1,10 @@
-use Rattle.vm_eval.proofs.Lemmas.{Any, ForAttribute, ToAttribute, attribute-group, attribute_job, attribute_say, attribute_stands, begins-among, bodies_in, comes, leaves-among, of_attribute_kept, of_kept, refl}
+use Rattle.vm_eval.proofs.Lemmas.{Any, Ask, End, ForAttribute, ToAttribute, attribute-group, attribute_job, attribute_say, attribute_stands, begins-among, ends-there, leaves-as, of_attribute_kept, refl, waits-on}
 use Rattle.vm_eval.proofs.first_steps.begin_attribute.Goals as goal
 
-pub returns-clause-goes : goal.returns-clause-goes
-returns-clause-goes c =
-    let step = c.in_ok-step in
-    let next = c.of_attribute.result in
-    comes _ _ _ next c.take.result (
-      begins-among attribute_say attribute_stands ToAttribute ForAttribute Any attribute-group (λ t. attribute_job t c.args.task) _ _ step.step next (λ t. tt) c.of_attribute.ensures.step step.ensures.goes,
-      leaves-among of_kept bodies_in of_attribute_kept 0 _ _ step.step next refl c.of_attribute.ensures.says c.of_attribute.ensures.opens step.ensures.safe,
-    ) c.take.ensures.taken
+pub returns-in-Ok-Ask-clause-goes : goal.returns-in-Ok-Ask-clause-goes
+returns-in-Ok-Ask-clause-goes c =
+    waits-on _ _ _ c.in-Ok-Ask.asked (ForAttribute c.in-Ok-Ask.kept) c.wait.result (begins-among attribute_say attribute_stands ToAttribute ForAttribute Any attribute-group (λ t. attribute_job t c.args.task) _ _ (Ask c.in-Ok-Ask.asked c.in-Ok-Ask.kept) (λ t. tt) (rw c.in-Ok-Ask.is at c.begin.ensures.goes), leaves-as ForAttribute of_attribute_kept (λ k. refl) 0 _ _ (Ask c.in-Ok-Ask.asked c.in-Ok-Ask.kept) refl (λ k. refl) (rw c.in-Ok-Ask.is at c.begin.ensures.safe)) c.wait.ensures.waits
+
+pub returns-in-Ok-End-clause-goes : goal.returns-in-Ok-End-clause-goes
+returns-in-Ok-End-clause-goes c =
+    ends-there _ _ c.in-Ok-End.answer (begins-among attribute_say attribute_stands ToAttribute ForAttribute Any attribute-group (λ t. attribute_job t c.args.task) _ _ (End c.in-Ok-End.answer) (λ t. tt) (rw c.in-Ok-End.is at c.begin.ensures.goes), leaves-as ForAttribute of_attribute_kept (λ k. refl) 0 _ _ (End c.in-Ok-End.answer) refl (λ k. refl) (rw c.in-Ok-End.is at c.begin.ensures.safe))

@@ -1,11 +1,10 @@
-use Rattle.vm_eval.proofs.Lemmas.{Any, ForClass, ToClass, begins-among, bodies_in, class-group, class_job, class_job_say, class_stands, comes, leaves-among, of_class_kept, of_kept, refl}
+use Rattle.vm_eval.proofs.Lemmas.{Any, Ask, End, ForClass, ToClass, begins-among, class-group, class_job, class_job_say, class_stands, ends-there, leaves-as, of_class_kept, refl, waits-on}
 use Rattle.vm_eval.proofs.first_steps.begin_class.Goals as goal
 
-pub returns-clause-goes : goal.returns-clause-goes
-returns-clause-goes c =
-    let step = c.in_ok-step in
-    let next = c.of_class.result in
-    comes _ _ _ next c.take.result (
-      begins-among class_job_say class_stands ToClass ForClass Any class-group (λ t. class_job t c.args.task) _ _ step.step next (λ t. tt) c.of_class.ensures.step step.ensures.goes,
-      leaves-among of_kept bodies_in of_class_kept 0 _ _ step.step next refl c.of_class.ensures.says c.of_class.ensures.opens step.ensures.safe,
-    ) c.take.ensures.taken
+pub returns-in-Ok-Ask-clause-goes : goal.returns-in-Ok-Ask-clause-goes
+returns-in-Ok-Ask-clause-goes c =
+    waits-on _ _ _ c.in-Ok-Ask.asked (ForClass c.in-Ok-Ask.kept) c.wait.result (begins-among class_job_say class_stands ToClass ForClass Any class-group (λ t. class_job t c.args.task) _ _ (Ask c.in-Ok-Ask.asked c.in-Ok-Ask.kept) (λ t. tt) (rw c.in-Ok-Ask.is at c.begin.ensures.goes), leaves-as ForClass of_class_kept (λ k. refl) 0 _ _ (Ask c.in-Ok-Ask.asked c.in-Ok-Ask.kept) refl (λ k. refl) (rw c.in-Ok-Ask.is at c.begin.ensures.safe)) c.wait.ensures.waits
+
+pub returns-in-Ok-End-clause-goes : goal.returns-in-Ok-End-clause-goes
+returns-in-Ok-End-clause-goes c =
+    ends-there _ _ c.in-Ok-End.answer (begins-among class_job_say class_stands ToClass ForClass Any class-group (λ t. class_job t c.args.task) _ _ (End c.in-Ok-End.answer) (λ t. tt) (rw c.in-Ok-End.is at c.begin.ensures.goes), leaves-as ForClass of_class_kept (λ k. refl) 0 _ _ (End c.in-Ok-End.answer) refl (λ k. refl) (rw c.in-Ok-End.is at c.begin.ensures.safe))

@@ -1,12 +1,11 @@
-use Rattle.vm_eval.proofs.Lemmas.{ForIteration, On, ToProtocol, begins-among, bodies_in, comes, iter-group, iter_job_say, iter_stands, leaves-among, of_iter_kept, of_kept, protocol_job, refl}
+use Rattle.vm_eval.proofs.Lemmas.{Ask, End, ForIteration, On, ToProtocol, begins-among, ends-there, iter-group, iter_job_say, iter_stands, leaves-as, of_iter_kept, protocol_job, refl, waits-on}
 use Rattle.vm_eval.specs.declared.protocols.Branch.TheVariants as branch
 use Rattle.vm_eval.proofs.first_steps.begin_iteration.Goals as goal
 
-pub returns-clause-goes : goal.returns-clause-goes
-returns-clause-goes c =
-    let step = c.in_ok-step in
-    let next = c.of_iteration.result in
-    comes _ _ _ next c.take.result (
-      begins-among iter_job_say iter_stands ToProtocol ForIteration (On branch.Iterations) iter-group (λ t. protocol_job c.args.task) _ _ step.step next (λ t. c.requires.branch) c.of_iteration.ensures.step step.ensures.goes,
-      leaves-among of_kept bodies_in of_iter_kept 0 _ _ step.step next refl c.of_iteration.ensures.says c.of_iteration.ensures.opens step.ensures.safe,
-    ) c.take.ensures.taken
+pub returns-in-Ok-Ask-clause-goes : goal.returns-in-Ok-Ask-clause-goes
+returns-in-Ok-Ask-clause-goes c =
+    waits-on _ _ _ c.in-Ok-Ask.asked (ForIteration c.in-Ok-Ask.kept) c.wait.result (begins-among iter_job_say iter_stands ToProtocol ForIteration (On branch.Iterations) iter-group (λ t. protocol_job c.args.task) _ _ (Ask c.in-Ok-Ask.asked c.in-Ok-Ask.kept) (λ t. c.requires.branch) (rw c.in-Ok-Ask.is at c.begin.ensures.goes), leaves-as ForIteration of_iter_kept (λ k. refl) 0 _ _ (Ask c.in-Ok-Ask.asked c.in-Ok-Ask.kept) refl (λ k. refl) (rw c.in-Ok-Ask.is at c.begin.ensures.safe)) c.wait.ensures.waits
+
+pub returns-in-Ok-End-clause-goes : goal.returns-in-Ok-End-clause-goes
+returns-in-Ok-End-clause-goes c =
+    ends-there _ _ c.in-Ok-End.answer (begins-among iter_job_say iter_stands ToProtocol ForIteration (On branch.Iterations) iter-group (λ t. protocol_job c.args.task) _ _ (End c.in-Ok-End.answer) (λ t. c.requires.branch) (rw c.in-Ok-End.is at c.begin.ensures.goes), leaves-as ForIteration of_iter_kept (λ k. refl) 0 _ _ (End c.in-Ok-End.answer) refl (λ k. refl) (rw c.in-Ok-End.is at c.begin.ensures.safe))

@@ -1,11 +1,10 @@
-use Rattle.vm_eval.proofs.Lemmas.{Any, ForObject, ToObject, begins-among, bodies_in, comes, leaves-among, object-group, object_job, object_job_say, object_stands, of_kept, of_object_kept, refl}
+use Rattle.vm_eval.proofs.Lemmas.{Any, Ask, End, ForObject, ToObject, begins-among, ends-there, leaves-as, object-group, object_job, object_job_say, object_stands, of_object_kept, refl, waits-on}
 use Rattle.vm_eval.proofs.first_steps.begin_object.Goals as goal
 
-pub returns-clause-goes : goal.returns-clause-goes
-returns-clause-goes c =
-    let step = c.in_ok-step in
-    let next = c.of_object.result in
-    comes _ _ _ next c.take.result (
-      begins-among object_job_say object_stands ToObject ForObject Any object-group (λ t. object_job c.args.task) _ _ step.step next (λ t. tt) c.of_object.ensures.step step.ensures.goes,
-      leaves-among of_kept bodies_in of_object_kept 0 _ _ step.step next refl c.of_object.ensures.says c.of_object.ensures.opens step.ensures.safe,
-    ) c.take.ensures.taken
+pub returns-in-Ok-Ask-clause-goes : goal.returns-in-Ok-Ask-clause-goes
+returns-in-Ok-Ask-clause-goes c =
+    waits-on _ _ _ c.in-Ok-Ask.asked (ForObject c.in-Ok-Ask.kept) c.wait.result (begins-among object_job_say object_stands ToObject ForObject Any object-group (λ t. object_job c.args.task) _ _ (Ask c.in-Ok-Ask.asked c.in-Ok-Ask.kept) (λ t. tt) (rw c.in-Ok-Ask.is at c.begin.ensures.goes), leaves-as ForObject of_object_kept (λ k. refl) 0 _ _ (Ask c.in-Ok-Ask.asked c.in-Ok-Ask.kept) refl (λ k. refl) (rw c.in-Ok-Ask.is at c.begin.ensures.safe)) c.wait.ensures.waits
+
+pub returns-in-Ok-End-clause-goes : goal.returns-in-Ok-End-clause-goes
+returns-in-Ok-End-clause-goes c =
+    ends-there _ _ c.in-Ok-End.answer (begins-among object_job_say object_stands ToObject ForObject Any object-group (λ t. object_job c.args.task) _ _ (End c.in-Ok-End.answer) (λ t. tt) (rw c.in-Ok-End.is at c.begin.ensures.goes), leaves-as ForObject of_object_kept (λ k. refl) 0 _ _ (End c.in-Ok-End.answer) refl (λ k. refl) (rw c.in-Ok-End.is at c.begin.ensures.safe))

@@ -1,11 +1,10 @@
-use Rattle.vm_eval.proofs.Lemmas.{Any, ForOperator, ToOperator, begins-among, bodies_in, comes, leaves-among, of_kept, of_operator_kept, operator-group, operator_job, operator_say, operator_stands, refl}
+use Rattle.vm_eval.proofs.Lemmas.{Any, Ask, End, ForOperator, ToOperator, begins-among, ends-there, leaves-as, of_operator_kept, operator-group, operator_job, operator_say, operator_stands, refl, waits-on}
 use Rattle.vm_eval.proofs.first_steps.begin_operator.Goals as goal
 
-pub returns-clause-goes : goal.returns-clause-goes
-returns-clause-goes c =
-    let step = c.in_ok-step in
-    let next = c.of_operator.result in
-    comes _ _ _ next c.take.result (
-      begins-among operator_say operator_stands ToOperator ForOperator Any operator-group (λ t. operator_job t c.args.task) _ _ step.step next (λ t. tt) c.of_operator.ensures.step step.ensures.goes,
-      leaves-among of_kept bodies_in of_operator_kept 0 _ _ step.step next refl c.of_operator.ensures.says c.of_operator.ensures.opens step.ensures.safe,
-    ) c.take.ensures.taken
+pub returns-in-Ok-Ask-clause-goes : goal.returns-in-Ok-Ask-clause-goes
+returns-in-Ok-Ask-clause-goes c =
+    waits-on _ _ _ c.in-Ok-Ask.asked (ForOperator c.in-Ok-Ask.kept) c.wait.result (begins-among operator_say operator_stands ToOperator ForOperator Any operator-group (λ t. operator_job t c.args.task) _ _ (Ask c.in-Ok-Ask.asked c.in-Ok-Ask.kept) (λ t. tt) (rw c.in-Ok-Ask.is at c.begin.ensures.goes), leaves-as ForOperator of_operator_kept (λ k. refl) 0 _ _ (Ask c.in-Ok-Ask.asked c.in-Ok-Ask.kept) refl (λ k. refl) (rw c.in-Ok-Ask.is at c.begin.ensures.safe)) c.wait.ensures.waits
+
+pub returns-in-Ok-End-clause-goes : goal.returns-in-Ok-End-clause-goes
+returns-in-Ok-End-clause-goes c =
+    ends-there _ _ c.in-Ok-End.answer (begins-among operator_say operator_stands ToOperator ForOperator Any operator-group (λ t. operator_job t c.args.task) _ _ (End c.in-Ok-End.answer) (λ t. tt) (rw c.in-Ok-End.is at c.begin.ensures.goes), leaves-as ForOperator of_operator_kept (λ k. refl) 0 _ _ (End c.in-Ok-End.answer) refl (λ k. refl) (rw c.in-Ok-End.is at c.begin.ensures.safe))

@@ -1,11 +1,10 @@
-use Rattle.vm_eval.proofs.Lemmas.{Any, ForCall, ToCall, bodies_in, bodies_of, call-group, call_job_say, call_stands, comes, leaves-open, of_call_kept, of_kept, refl, resumes-among}
+use Rattle.vm_eval.proofs.Lemmas.{Any, Ask, End, ForCall, ToCall, bodies_of, call-group, call_job_say, call_stands, ends-there, leaves-open-as, of_call_kept, refl, resumes-among, waits-on}
 use Rattle.vm_eval.proofs.next_steps.resume_call.Goals as goal
 
-pub returns-clause-goes : goal.returns-clause-goes
-returns-clause-goes c =
-    let step = c.in_ok-step in
-    let next = c.of_call.result in
-    comes _ _ _ next c.take.result (
-      resumes-among call_job_say call_stands ToCall ForCall Any call-group (ForCall c.args.kept) c.args.kept c.args.answer _ _ step.step next refl c.of_call.ensures.step step.ensures.goes,
-      leaves-open of_kept bodies_in of_call_kept bodies_of (bodies_of c.args.kept) (bodies_of c.args.kept) _ _ step.step next refl c.of_call.ensures.says c.of_call.ensures.opens step.ensures.safe,
-    ) c.take.ensures.taken
+pub returns-in-Ok-Ask-clause-goes : goal.returns-in-Ok-Ask-clause-goes
+returns-in-Ok-Ask-clause-goes c =
+    waits-on _ _ _ c.in-Ok-Ask.asked (ForCall c.in-Ok-Ask.kept) c.wait.result (resumes-among call_job_say call_stands ToCall ForCall Any call-group c.args.kept c.args.answer _ _ (Ask c.in-Ok-Ask.asked c.in-Ok-Ask.kept) (rw c.in-Ok-Ask.is at c.resume.ensures.goes), leaves-open-as ForCall of_call_kept (λ k. refl) bodies_of (bodies_of c.args.kept) _ _ (Ask c.in-Ok-Ask.asked c.in-Ok-Ask.kept) (λ k. refl) (rw c.in-Ok-Ask.is at c.resume.ensures.safe)) c.wait.ensures.waits
+
+pub returns-in-Ok-End-clause-goes : goal.returns-in-Ok-End-clause-goes
+returns-in-Ok-End-clause-goes c =
+    ends-there _ _ c.in-Ok-End.answer (resumes-among call_job_say call_stands ToCall ForCall Any call-group c.args.kept c.args.answer _ _ (End c.in-Ok-End.answer) (rw c.in-Ok-End.is at c.resume.ensures.goes), leaves-open-as ForCall of_call_kept (λ k. refl) bodies_of (bodies_of c.args.kept) _ _ (End c.in-Ok-End.answer) (λ k. refl) (rw c.in-Ok-End.is at c.resume.ensures.safe))

@@ -1,11 +1,10 @@
-use Rattle.vm_eval.proofs.Lemmas.{Any, ForDescriptor, ToDescriptor, bodies_in, comes, descriptor-group, descriptor_say, descriptor_stands, leaves-among, of_descriptor_kept, of_kept, refl, resumes-among}
+use Rattle.vm_eval.proofs.Lemmas.{Any, Ask, End, ForDescriptor, ToDescriptor, descriptor-group, descriptor_say, descriptor_stands, ends-there, leaves-as, of_descriptor_kept, refl, resumes-among, waits-on}
 use Rattle.vm_eval.proofs.next_steps.resume_descriptor.Goals as goal
 
-pub returns-clause-goes : goal.returns-clause-goes
-returns-clause-goes c =
-    let step = c.in_ok-step in
-    let next = c.of_descriptor.result in
-    comes _ _ _ next c.take.result (
-      resumes-among descriptor_say descriptor_stands ToDescriptor ForDescriptor Any descriptor-group (ForDescriptor c.args.kept) c.args.kept c.args.answer _ _ step.step next refl c.of_descriptor.ensures.step step.ensures.goes,
-      leaves-among of_kept bodies_in of_descriptor_kept 0 _ _ step.step next refl c.of_descriptor.ensures.says c.of_descriptor.ensures.opens step.ensures.safe,
-    ) c.take.ensures.taken
+pub returns-in-Ok-Ask-clause-goes : goal.returns-in-Ok-Ask-clause-goes
+returns-in-Ok-Ask-clause-goes c =
+    waits-on _ _ _ c.in-Ok-Ask.asked (ForDescriptor c.in-Ok-Ask.kept) c.wait.result (resumes-among descriptor_say descriptor_stands ToDescriptor ForDescriptor Any descriptor-group c.args.kept c.args.answer _ _ (Ask c.in-Ok-Ask.asked c.in-Ok-Ask.kept) (rw c.in-Ok-Ask.is at c.resume.ensures.goes), leaves-as ForDescriptor of_descriptor_kept (λ k. refl) 0 _ _ (Ask c.in-Ok-Ask.asked c.in-Ok-Ask.kept) refl (λ k. refl) (rw c.in-Ok-Ask.is at c.resume.ensures.safe)) c.wait.ensures.waits
+
+pub returns-in-Ok-End-clause-goes : goal.returns-in-Ok-End-clause-goes
+returns-in-Ok-End-clause-goes c =
+    ends-there _ _ c.in-Ok-End.answer (resumes-among descriptor_say descriptor_stands ToDescriptor ForDescriptor Any descriptor-group c.args.kept c.args.answer _ _ (End c.in-Ok-End.answer) (rw c.in-Ok-End.is at c.resume.ensures.goes), leaves-as ForDescriptor of_descriptor_kept (λ k. refl) 0 _ _ (End c.in-Ok-End.answer) refl (λ k. refl) (rw c.in-Ok-End.is at c.resume.ensures.safe))

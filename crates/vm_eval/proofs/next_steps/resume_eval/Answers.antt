@@ -1,11 +1,10 @@
-use Rattle.vm_eval.proofs.Lemmas.{Any, ForEval, ToEval, bodies_in, comes, eval-group, eval_say, eval_stands, leaves-among, of_eval_kept, of_kept, refl, resumes-among}
+use Rattle.vm_eval.proofs.Lemmas.{Any, Ask, End, ForEval, ToEval, ends-there, eval-group, eval_say, eval_stands, leaves-as, of_eval_kept, refl, resumes-among, waits-on}
 use Rattle.vm_eval.proofs.next_steps.resume_eval.Goals as goal
 
-pub returns-clause-goes : goal.returns-clause-goes
-returns-clause-goes c =
-    let step = c.in_ok-step in
-    let next = c.of_eval.result in
-    comes _ _ _ next c.take.result (
-      resumes-among eval_say eval_stands ToEval ForEval Any eval-group (ForEval c.args.kept) c.args.kept c.args.answer _ _ step.step next refl c.of_eval.ensures.step step.ensures.goes,
-      leaves-among of_kept bodies_in of_eval_kept 0 _ _ step.step next refl c.of_eval.ensures.says c.of_eval.ensures.opens step.ensures.safe,
-    ) c.take.ensures.taken
+pub returns-in-Ok-Ask-clause-goes : goal.returns-in-Ok-Ask-clause-goes
+returns-in-Ok-Ask-clause-goes c =
+    waits-on _ _ _ c.in-Ok-Ask.asked (ForEval c.in-Ok-Ask.kept) c.wait.result (resumes-among eval_say eval_stands ToEval ForEval Any eval-group c.args.kept c.args.answer _ _ (Ask c.in-Ok-Ask.asked c.in-Ok-Ask.kept) (rw c.in-Ok-Ask.is at c.resume.ensures.goes), leaves-as ForEval of_eval_kept (λ k. refl) 0 _ _ (Ask c.in-Ok-Ask.asked c.in-Ok-Ask.kept) refl (λ k. refl) (rw c.in-Ok-Ask.is at c.resume.ensures.safe)) c.wait.ensures.waits
+
+pub returns-in-Ok-End-clause-goes : goal.returns-in-Ok-End-clause-goes
+returns-in-Ok-End-clause-goes c =
+    ends-there _ _ c.in-Ok-End.answer (resumes-among eval_say eval_stands ToEval ForEval Any eval-group c.args.kept c.args.answer _ _ (End c.in-Ok-End.answer) (rw c.in-Ok-End.is at c.resume.ensures.goes), leaves-as ForEval of_eval_kept (λ k. refl) 0 _ _ (End c.in-Ok-End.answer) refl (λ k. refl) (rw c.in-Ok-End.is at c.resume.ensures.safe))

@@ -1,12 +1,11 @@
-use Rattle.vm_eval.proofs.Lemmas.{ForItems, On, ToProtocol, bodies_in, comes, items-group, items_job_say, items_stands, leaves-among, of_items_kept, of_kept, refl, resumes-among}
+use Rattle.vm_eval.proofs.Lemmas.{Ask, End, ForItems, On, ToProtocol, ends-there, items-group, items_job_say, items_stands, leaves-as, of_items_kept, refl, resumes-among, waits-on}
 use Rattle.vm_eval.specs.declared.protocols.Branch.TheVariants as branch
 use Rattle.vm_eval.proofs.next_steps.resume_items.Goals as goal
 
-pub returns-clause-goes : goal.returns-clause-goes
-returns-clause-goes c =
-    let step = c.in_ok-step in
-    let next = c.of_items.result in
-    comes _ _ _ next c.take.result (
-      resumes-among items_job_say items_stands ToProtocol ForItems (On branch.Items) items-group (ForItems c.args.kept) c.args.kept c.args.answer _ _ step.step next refl c.of_items.ensures.step step.ensures.goes,
-      leaves-among of_kept bodies_in of_items_kept 0 _ _ step.step next refl c.of_items.ensures.says c.of_items.ensures.opens step.ensures.safe,
-    ) c.take.ensures.taken
+pub returns-in-Ok-Ask-clause-goes : goal.returns-in-Ok-Ask-clause-goes
+returns-in-Ok-Ask-clause-goes c =
+    waits-on _ _ _ c.in-Ok-Ask.asked (ForItems c.in-Ok-Ask.kept) c.wait.result (resumes-among items_job_say items_stands ToProtocol ForItems (On branch.Items) items-group c.args.kept c.args.answer _ _ (Ask c.in-Ok-Ask.asked c.in-Ok-Ask.kept) (rw c.in-Ok-Ask.is at c.resume.ensures.goes), leaves-as ForItems of_items_kept (λ k. refl) 0 _ _ (Ask c.in-Ok-Ask.asked c.in-Ok-Ask.kept) refl (λ k. refl) (rw c.in-Ok-Ask.is at c.resume.ensures.safe)) c.wait.ensures.waits
+
+pub returns-in-Ok-End-clause-goes : goal.returns-in-Ok-End-clause-goes
+returns-in-Ok-End-clause-goes c =
+    ends-there _ _ c.in-Ok-End.answer (resumes-among items_job_say items_stands ToProtocol ForItems (On branch.Items) items-group c.args.kept c.args.answer _ _ (End c.in-Ok-End.answer) (rw c.in-Ok-End.is at c.resume.ensures.goes), leaves-as ForItems of_items_kept (λ k. refl) 0 _ _ (End c.in-Ok-End.answer) refl (λ k. refl) (rw c.in-Ok-End.is at c.resume.ensures.safe))

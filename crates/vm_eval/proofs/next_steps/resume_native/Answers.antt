@@ -1,11 +1,10 @@
-use Rattle.vm_eval.proofs.Lemmas.{Any, ForNative, bodies_in, comes, leaves-among, native-group, native_job_say, natives_stands, of_kept, of_natives_kept, refl, resumes-among, to_native}
+use Rattle.vm_eval.proofs.Lemmas.{Any, Ask, End, ForNative, ends-there, leaves-as, native-group, native_job_say, natives_stands, of_natives_kept, refl, resumes-among, to_native, waits-on}
 use Rattle.vm_eval.proofs.next_steps.resume_native.Goals as goal
 
-pub returns-clause-goes : goal.returns-clause-goes
-returns-clause-goes c =
-    let step = c.in_ok-step in
-    let next = c.of_native.result in
-    comes _ _ _ next c.take.result (
-      resumes-among native_job_say natives_stands to_native ForNative Any native-group (ForNative c.args.kept) c.args.kept c.args.answer _ _ step.step next refl c.of_native.ensures.step step.ensures.goes,
-      leaves-among of_kept bodies_in of_natives_kept 0 _ _ step.step next refl c.of_native.ensures.says c.of_native.ensures.opens step.ensures.safe,
-    ) c.take.ensures.taken
+pub returns-in-Ok-Ask-clause-goes : goal.returns-in-Ok-Ask-clause-goes
+returns-in-Ok-Ask-clause-goes c =
+    waits-on _ _ _ c.in-Ok-Ask.asked (ForNative c.in-Ok-Ask.kept) c.wait.result (resumes-among native_job_say natives_stands to_native ForNative Any native-group c.args.kept c.args.answer _ _ (Ask c.in-Ok-Ask.asked c.in-Ok-Ask.kept) (rw c.in-Ok-Ask.is at c.resume.ensures.goes), leaves-as ForNative of_natives_kept (λ k. refl) 0 _ _ (Ask c.in-Ok-Ask.asked c.in-Ok-Ask.kept) refl (λ k. refl) (rw c.in-Ok-Ask.is at c.resume.ensures.safe)) c.wait.ensures.waits
+
+pub returns-in-Ok-End-clause-goes : goal.returns-in-Ok-End-clause-goes
+returns-in-Ok-End-clause-goes c =
+    ends-there _ _ c.in-Ok-End.answer (resumes-among native_job_say natives_stands to_native ForNative Any native-group c.args.kept c.args.answer _ _ (End c.in-Ok-End.answer) (rw c.in-Ok-End.is at c.resume.ensures.goes), leaves-as ForNative of_natives_kept (λ k. refl) 0 _ _ (End c.in-Ok-End.answer) refl (λ k. refl) (rw c.in-Ok-End.is at c.resume.ensures.safe))
