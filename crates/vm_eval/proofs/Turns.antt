@@ -1,5 +1,5 @@
 -- One turn of the machine keeps the outcome, whatever the rows are.
-use Rattle.vm_eval.proofs.Below.{ℕ, zero, suc, List, [], length, map, Ok, Err, IfOk, refl, subst, sym, ap, ◌∙◌, arith, zero-add, true, false, cond, nat_lt, lt-ltb, le-ltb, length-append, map-append, length-map, sum_by_push, DepthLimit, Raised as Fault, Answer, Task, Step, Ask, End, PlainWorld, PlainTask, Ended, Answered, Told, Said, Asks, Ends, fault, Over, NoUnits, Outcome, Out, carry, asked, step, reach, Pending, reach-is, reach-alike, World, Reading, Reads, plain, task_of, ended_of, Steps, of_task, LeavesOpen, each-pop, each-push, all-first, all-last, all-rest, lasts-on, Kept, say, stands, of_kept, bodies_in, Begins, Resumes, finish, unwind, coming, state, BeginsAt, IsOnItsWay, Reaches, IsTaken, Comes, IsFirst, IsFirstAbove, IsNext, IsUnderWay, EndsDeep}
+use Rattle.vm_eval.proofs.Below.{ℕ, zero, suc, List, [], length, map, Ok, Err, IfOk, refl, subst, sym, ap, ◌∙◌, arith, zero-add, true, false, cond, nat_lt, lt-ltb, le-ltb, length-append, map-append, length-map, sum_by_push, DepthLimit, Raised as Fault, Answer, Task, Step, Ask, End, PlainWorld, PlainTask, Ended, Answered, Told, Said, Asks, Ends, fault, Over, NoUnits, Outcome, Out, carry, asked, step, reach, Pending, reach-is, reach-alike, World, Reading, Reads, plain, task_of, ended_of, Steps, of_task, LeavesOpen, each-pop, each-push, all-first, all-last, all-rest, lasts-on, Kept, say, stands, of_kept, bodies_in, Begins, Resumes, finish, unwind, coming, state, BeginsAt, IsOnItsWay, Reaches, IsTaken, Comes, IsFirst, IsFirstAbove, IsNext, IsUnderWay, EndsDeep, turns_more}
 use Rattle.std.proofs.Common.{◌≡◌, ◌+◌, ◌<◌, ◌≤◌, ◌∷◌, ◌++◌}
 use Rattle.std.specs.Prelude.{Result}
 use Rattle.vm_eval.specs.declared.stack.End.TheVariants as code
@@ -160,6 +160,16 @@ waits-on Is below stack asked kept (Err e) is h = tt
 -- a row ends
 pub ends-there : (Is : Step Kept → Type 0) (stack : List Kept) (r : Result Answer Fault) → Is (End r) → Comes Is stack stack (next.End r)
 ends-there Is stack r is = (End r, is, refl, refl)
+
+-- a step that is taken takes one turn more, or one frame
+taken-more : (step : Step Kept) (below stack : List Kept) (to : Next) → IsTaken step below stack to → length stack + turns_more to ≡ length below + 1
+taken-more (Ask asked kept) below stack (next.Ask task) h = let same = ap length h.1 in let longer = length-append below (kept ∷ []) in omega (arith, same, longer)
+taken-more (Ask asked kept) below stack (next.End r) h = absurd h
+taken-more (End r) below stack (next.Ask task) h = absurd h
+taken-more (End r) below stack (next.End s) h = let same = ap length h.1 in omega (arith, same)
+
+pub comes-more : (Is : Step Kept → Type 0) (below stack : List Kept) (to : Next) → Comes Is below stack to → length stack + turns_more to ≡ length below + 1
+comes-more Is below stack to h = taken-more h.0 below stack to h.2
 
 -- the machine stays on its way, where each step is taken
 module _ (task : Task) (first : World) (units : ℕ) where
