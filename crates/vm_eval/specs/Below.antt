@@ -77,6 +77,7 @@ pub use Rattle.proto_ops.specs.ProtoCompare.Rows.{compare_stands, of_compare_kep
 pub use Rattle.proto_ops.specs.ProtoCompare.Say.{compare_job_say}
 pub use Rattle.proto_ops.specs.Rows.{of_operator_kept, operator_stands}
 pub use Rattle.proto_ops.specs.Say.{operator_say}
+pub use Rattle.py_node.specs.Faults.{raised}
 pub use Rattle.py_node.specs.BuiltIns.{heap_flags, place_of}
 pub use Rattle.py_node.specs.Replies.{GivesValue, PlainReply, reply_answer_of, reply_of}
 pub use Rattle.py_node.specs.Tree.{Text, Tree, tree_of}
