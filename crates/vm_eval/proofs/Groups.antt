@@ -1,5 +1,5 @@
 -- What a group's row says is what the row says among all.
-use Rattle.vm_eval.proofs.Below.{[], sym, ap, subst, ◌∙◌, refl, Result, Raised as Fault, PyObjectRef, Answer, Step, Ask, End, PlainWorld, PlainTask, ToEval, ToAttribute, ToDescriptor, ToCall, ToClass, ToOperator, ToCompare, ToProtocol, ToObject, ProtocolJob, Answered, Told, Said, Asks, Ends, Saying, Pending, Alike, fresh, given, World, Reading, plain, ended_of, ℕ, Ok, Claim, of_step, of_task, of_kept, bodies_in, left_open, Leaves, LeavesOpen, leaves-among, leaves-open, Steps, Goes, eval_say, eval_stands, attribute_say, attribute_stands, descriptor_say, descriptor_stands, call_job_say, call_stands, class_job_say, class_stands, operator_say, operator_stands, compare_job_say, compare_stands, number_job_say, NumberKept, Pass, AfterBool, AfterLength, AfterIndex, AfterInt, AfterTruncate, AfterIndexOf, AfterLen, Measured, Expected, Called, number_stands, iter_job_say, IterKept, Search, iter_stands, search_job, items_job_say, ItemsKept, items_stands, object_job_say, object_stands, native_job_say, natives_stands, Kept, ForEval, ForAttribute, ForDescriptor, ForCall, ForClass, ForOperator, ForCompare, ForNumber, ForIteration, ForItems, ForObject, ForNative, Branch, say, stands, among, step_among, by_branch, branch_of, to_native, Resumes}
+use Rattle.vm_eval.proofs.Below.{[], List, sym, ap, subst, ◌∙◌, refl, Result, Raised as Fault, PyObjectRef, Answer, Step, Ask, End, PlainWorld, PlainTask, ToEval, ToAttribute, ToDescriptor, ToCall, ToClass, ToOperator, ToCompare, ToProtocol, ToObject, ProtocolJob, Answered, Told, Said, Asks, Ends, Saying, Pending, Alike, fresh, given, World, Reading, plain, ended_of, ℕ, Ok, Claim, of_step, of_task, of_kept, bodies_in, left_open, Leaves, LeavesOpen, leaves-among, leaves-open, Steps, Goes, eval_say, eval_stands, attribute_say, attribute_stands, descriptor_say, descriptor_stands, call_job_say, call_stands, class_job_say, class_stands, operator_say, operator_stands, compare_job_say, compare_stands, number_job_say, NumberKept, Pass, AfterBool, AfterLength, AfterIndex, AfterInt, AfterTruncate, AfterIndexOf, AfterLen, Measured, Expected, Called, number_stands, iter_job_say, IterKept, Search, iter_stands, search_job, items_job_say, ItemsKept, items_stands, object_job_say, object_stands, native_job_say, natives_stands, Kept, ForEval, ForAttribute, ForDescriptor, ForCall, ForClass, ForOperator, ForCompare, ForNumber, ForIteration, ForItems, ForObject, ForNative, Branch, say, stands, among, step_among, by_branch, branch_of, to_native, Resumes}
 use Rattle.std.proofs.Common.{◌≡◌, ◌∷◌, ◌++◌}
 use Rattle.proto_object.specs.declared.proto_iter.IterKept.TheVariants as iter
 use Rattle.proto_object.specs.declared.proto_iter.seek.Search.TheVariants as search

@@ -1,5 +1,5 @@
 -- One turn of the machine keeps the outcome, whatever the rows are.
-use Rattle.vm_eval.proofs.Below.{ℕ, zero, suc, List, [], length, map, Ok, Err, IfOk, refl, subst, sym, ap, ◌∙◌, arith, zero-add, true, false, cond, nat_lt, lt-ltb, le-ltb, length-append, map-append, length-map, sum_by_push, DepthLimit, Raised as Fault, Answer, Task, Step, Ask, End, PlainWorld, PlainTask, Ended, Answered, Told, Said, Asks, Ends, fault, Over, NoUnits, Outcome, Out, carry, asked, step, reach, Pending, reach-is, reach-alike, World, Reading, Reads, plain, task_of, ended_of, Steps, of_task, LeavesOpen, each-pop, each-push, all-first, all-last, all-rest, lasts-on, Kept, say, stands, of_kept, bodies_in, Begins, Resumes, finish, unwind, coming, state, BeginsAt, IsOnItsWay, Reaches, IsTaken, Comes, IsFirst, IsFirstAbove, IsNext, IsUnderWay, EndsDeep, turns_more}
+use Rattle.vm_eval.proofs.Below.{ℕ, zero, suc, List, [], length, map, Ok, Err, IfOk, refl, subst, sym, ap, ◌∙◌, arith, zero-add, true, false, cond, nat_lt, lt-ltb, le-ltb, length-append, map-append, length-map, sum_by_push, DepthLimit, Raised as Fault, Answer, Task, Step, Ask, End, PlainWorld, PlainTask, Ended, Answered, Told, Said, Asks, Ends, fault, Over, NoUnits, Outcome, Out, carry, asked, step, reach, Pending, reach-is, reach-alike, World, Reading, Reads, plain, task_of, ended_of, Steps, AllHold, of_task, LeavesOpen, each-pop, each-push, all-first, all-last, all-rest, lasts-on, Kept, say, stands, of_kept, bodies_in, Begins, Resumes, finish, unwind, coming, state, BeginsAt, IsOnItsWay, Reaches, IsTaken, Comes, IsFirst, IsFirstAbove, IsNext, IsUnderWay, EndsDeep, turns_more}
 use Rattle.std.proofs.Common.{◌≡◌, ◌+◌, ◌<◌, ◌≤◌, ◌∷◌, ◌++◌}
 use Rattle.std.specs.Prelude.{Result}
 use Rattle.vm_eval.specs.declared.stack.End.TheVariants as code
@@ -159,7 +159,7 @@ waits-on Is below stack asked kept (Err e) is h = tt
 
 -- a row ends
 pub ends-there : (Is : Step Kept → Type 0) (stack : List Kept) (r : Result Answer Fault) → Is (End r) → Comes Is stack stack (next.End r)
-ends-there Is stack r is = (End r, is, refl, refl)
+ends-there Is stack r is = (End r, is, (refl, refl))
 
 -- a step that is taken takes one turn more, or one frame
 taken-more : (step : Step Kept) (below stack : List Kept) (to : Next) → IsTaken step below stack to → length stack + turns_more to ≡ length below + 1

@@ -3,8 +3,8 @@ use Rattle.vm_eval.proofs.first_steps.begin_class.Goals as goal
 
 pub returns-in-Ok-Ask-clause-goes : goal.returns-in-Ok-Ask-clause-goes
 returns-in-Ok-Ask-clause-goes c =
-    waits-on _ _ _ c.in-Ok-Ask.asked (ForClass c.in-Ok-Ask.kept) c.wait.result (begins-among class_job_say class_stands ToClass ForClass Any class-group (λ t. class_job t c.args.task) _ _ (Ask c.in-Ok-Ask.asked c.in-Ok-Ask.kept) (λ t. tt) (rw c.in-Ok-Ask.is at c.begin.ensures.goes), leaves-as ForClass of_class_kept (λ k. refl) 0 _ _ (Ask c.in-Ok-Ask.asked c.in-Ok-Ask.kept) refl (λ k. refl) (rw c.in-Ok-Ask.is at c.begin.ensures.safe)) c.wait.ensures.waits
+    waits-on _ _ _ c.in-Ok-Ask.asked (ForClass c.in-Ok-Ask.kept) c.wait.result (begins-among class_job_say class_stands ToClass ForClass Any class-group (λ t. class_job t c.args.task) _ _ (Ask c.in-Ok-Ask.asked c.in-Ok-Ask.kept) (λ t. tt) (rw (c.in-Ok-Ask.is, c.in-Ok-Ask.field-0-is) at c.begin.ensures.goes), leaves-as ForClass of_class_kept (λ k. refl) 0 _ _ (Ask c.in-Ok-Ask.asked c.in-Ok-Ask.kept) refl (λ k. refl) (rw (c.in-Ok-Ask.is, c.in-Ok-Ask.field-0-is) at c.begin.ensures.safe)) c.wait.ensures.waits
 
 pub returns-in-Ok-End-clause-goes : goal.returns-in-Ok-End-clause-goes
 returns-in-Ok-End-clause-goes c =
-    ends-there _ _ c.in-Ok-End.answer (begins-among class_job_say class_stands ToClass ForClass Any class-group (λ t. class_job t c.args.task) _ _ (End c.in-Ok-End.answer) (λ t. tt) (rw c.in-Ok-End.is at c.begin.ensures.goes), leaves-as ForClass of_class_kept (λ k. refl) 0 _ _ (End c.in-Ok-End.answer) refl (λ k. refl) (rw c.in-Ok-End.is at c.begin.ensures.safe))
+    ends-there _ _ c.in-Ok-End.answer (begins-among class_job_say class_stands ToClass ForClass Any class-group (λ t. class_job t c.args.task) _ _ (End c.in-Ok-End.answer) (λ t. tt) (rw (c.in-Ok-End.is, c.in-Ok-End.field-0-is) at c.begin.ensures.goes), leaves-as ForClass of_class_kept (λ k. refl) 0 _ _ (End c.in-Ok-End.answer) refl (λ k. refl) (rw (c.in-Ok-End.is, c.in-Ok-End.field-0-is) at c.begin.ensures.safe))

@@ -6,7 +6,7 @@ pub returns-then-len-lt-DEPTH-clause-goes : goal.returns-then-len-lt-DEPTH-claus
 returns-then-len-lt-DEPTH-clause-goes c =
     comes-above (length c.args.stack.now.items) c.args.task c.args.world.now c.begin.new.world c.args.stack.now.items c.begin.new.stack.items c.begin.result (omega arith) c.begin.ensures.goes
 
-pub returns-else-len-lt-DEPTH-clause-goes : goal.returns-else-len-lt-DEPTH-clause-goes
-returns-else-len-lt-DEPTH-clause-goes c =
+pub returns-clause-goes : goal.returns-clause-goes
+returns-clause-goes c =
     let w = c.args.world.now in
     rw c.too_deep.ensures (_, (asked-limited (length c.args.stack.now.items) c.args.task w (omega arith), (same-lasts w w refl refl refl refl refl, (tt, omega arith))), (refl, refl))
