@@ -1,6 +1,6 @@
 -- The words that the lemmas of this crate are written in: its own definitions, and words and lemmas of crates below.
 pub use Rattle.class_world.proofs.Claims.{all-first, all-last, all-rest, each-pop, each-push}
-pub use Rattle.class_world.proofs.Growth.{lasts-on}
+pub use Rattle.class_world.proofs.Growth.{lasts-on, same-lasts}
 pub use Rattle.class_world.proofs.Leaves.{leaves-among, leaves-open}
 pub use Rattle.class_world.specs.Reading.{Reading, Reads, bindings, ended_of, scope_of, task_of}
 unfoldable pub use Rattle.class_world.specs.Reading.{plain}

@@ -17,7 +17,7 @@ pub use Rattle.vm_eval.proofs.Groups.{Any, On, attribute-group, begins-among, ca
 pub use Rattle.row_kit.proofs.Ended.{sorted_ends}
 pub use Rattle.vm_eval.proofs.OfNatives.Families.{calls-family, comparisons-family, details-family, family-begins, family-resumes, items-family, parts-family, plain-begins, repeats-family}
 pub use Rattle.vm_eval.proofs.Rests.{none-held, none-read, quiet-held, quiet-read, rest-grows, still-none}
-pub use Rattle.vm_eval.proofs.Turns.{asked-holds, asked-limited, began-next, comes-above, comes-more, ended, ends-there, no-frames, over, resumed-next, runs-on, spent-next, under-way, waits-on}
+pub use Rattle.vm_eval.proofs.Turns.{asked-holds, began-next, comes-above, comes-more, ended, ends-there, limited-above, no-frames, over, resumed-next, runs-on, spent-next, under-way, waits-on}
 pub use Rattle.vm_eval.specs.Asks.{ending_in, unnoted}
 pub use Rattle.vm_eval.specs.Below.{AllHold, Ask, Claim, End, Grows, IsSome, ToAttribute, ToCall, ToClass, ToCompare, ToDescriptor, ToEval, ToObject, ToOperator, ToProtocol, asking_stands, attribute_say, attribute_stands, bodies_of, call_job_say, call_stands, class_job_say, class_stands, compare_job_say, compare_stands, compared_stands, descriptor_say, descriptor_stands, detail_stands, eval_say, eval_stands, item_stands, items_job_say, items_stands, iter_job_say, iter_stands, number_job_say, number_stands, numbers, object_job_say, object_stands, of_attribute_kept, of_call_kept, of_class_kept, of_compare_kept, of_descriptor_kept, of_eval_kept, of_items_kept, of_iter_kept, of_number_kept, of_object_kept, of_operator_kept, of_task, operator_say, operator_stands, parts_stands, refused_change, repeat_stands, told, tree_of}
 pub use Rattle.vm_eval.specs.OfNatives.Rows.{native_job, natives_stands, of_natives_kept}

@@ -1,5 +1,5 @@
 -- One turn of the machine keeps the outcome, whatever the rows are.
-use Rattle.vm_eval.proofs.Below.{ℕ, zero, suc, List, [], length, map, Ok, Err, IfOk, refl, subst, sym, ap, ◌∙◌, arith, zero-add, true, false, cond, nat_lt, lt-ltb, le-ltb, length-append, map-append, length-map, sum_by_push, DepthLimit, Raised as Fault, Answer, Task, Step, Ask, End, PlainWorld, PlainTask, Ended, Answered, Told, Said, Asks, Ends, fault, Over, NoUnits, Outcome, Out, carry, asked, step, reach, Pending, reach-is, reach-alike, World, Reading, Reads, plain, task_of, ended_of, Steps, AllHold, of_task, LeavesOpen, each-pop, each-push, all-first, all-last, all-rest, lasts-on, Kept, say, stands, of_kept, bodies_in, Begins, Resumes, finish, unwind, coming, state, BeginsAt, IsOnItsWay, Reaches, IsTaken, Comes, IsFirst, IsFirstAbove, IsNext, IsUnderWay, EndsDeep, turns_more}
+use Rattle.vm_eval.proofs.Below.{ℕ, zero, suc, List, [], length, map, Ok, Err, IfOk, refl, subst, sym, ap, ◌∙◌, arith, zero-add, true, false, cond, nat_lt, lt-ltb, le-ltb, length-append, map-append, length-map, sum_by_push, DepthLimit, Raised as Fault, Answer, Task, Step, Ask, End, PlainWorld, PlainTask, Ended, Answered, Told, Said, Asks, Ends, fault, Over, NoUnits, Outcome, Out, carry, asked, step, reach, Pending, reach-is, reach-alike, World, Reading, Reads, plain, task_of, ended_of, Steps, AllHold, of_task, LeavesOpen, each-pop, each-push, all-first, all-last, all-rest, lasts-on, same-lasts, Kept, say, stands, of_kept, bodies_in, Begins, Resumes, finish, unwind, coming, state, BeginsAt, IsOnItsWay, Reaches, IsTaken, Comes, IsFirst, IsFirstAbove, IsNext, IsUnderWay, EndsDeep, turns_more}
 use Rattle.std.proofs.Common.{◌≡◌, ◌+◌, ◌<◌, ◌≤◌, ◌∷◌, ◌++◌}
 use Rattle.std.specs.Prelude.{Result}
 use Rattle.vm_eval.specs.declared.stack.End.TheVariants as code
@@ -170,6 +170,11 @@ taken-more (End r) below stack (next.End s) h = let same = ap length h.1 in omeg
 
 pub comes-more : (Is : Step Kept → Type 0) (below stack : List Kept) (to : Next) → Comes Is below stack to → length stack + turns_more to ≡ length below + 1
 comes-more Is below stack to h = taken-more h.0 below stack to h.2
+
+-- an asked task that stands too deep ends at once
+pub limited-above : (depth : ℕ) (task : Task) (w : World) (stack : List Kept) → 1000 ≤ depth → Comes (IsFirstAbove depth task w w) stack stack (next.End (fault DepthLimit))
+limited-above depth task w stack above =
+    ends-there (IsFirstAbove depth task w w) stack (fault DepthLimit) (asked-limited depth task w above, (same-lasts w w refl refl refl refl refl, (tt, omega arith)))
 
 -- the machine stays on its way, where each step is taken
 module _ (task : Task) (first : World) (units : ℕ) where

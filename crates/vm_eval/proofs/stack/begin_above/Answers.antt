@@ -1,4 +1,4 @@
-use Rattle.vm_eval.proofs.Lemmas.{refl, arith, asked-limited, comes-above, same-lasts}
+use Rattle.vm_eval.proofs.Lemmas.{arith, comes-above, limited-above}
 use Rattle.std.proofs.Common.{length}
 use Rattle.vm_eval.proofs.stack.begin_above.Goals as goal
 
@@ -8,5 +8,4 @@ returns-then-len-lt-DEPTH-clause-goes c =
 
 pub returns-clause-goes : goal.returns-clause-goes
 returns-clause-goes c =
-    let w = c.args.world.now in
-    rw c.too_deep.ensures (_, (asked-limited (length c.args.stack.now.items) c.args.task w (omega arith), (same-lasts w w refl refl refl refl refl, (tt, omega arith))), (refl, refl))
+    rw c.too_deep.ensures (limited-above (length c.args.stack.now.items) c.args.task c.args.world.now c.args.stack.now.items (omega arith))
