@@ -57,20 +57,26 @@ pub fn begin(world: &mut World, task: AttributeTask) -> Result<Step<AttributeKep
     ensures safe { Leaves of_attribute_kept world.old world.new result }
 {
     match task {
-        AttributeTask::GetAttr(o, name) => get_attr::get_attr(world, o, name),
-        AttributeTask::Generic(o, name) => Ok(generic::generic(world, o, name)),
-        AttributeTask::GenericOpt(o, name, dict) => Ok(generic::generic_opt(world, o, name, dict)),
-        AttributeTask::TypeGet(class, name) => Ok(class_get::type_get(world, class, name)),
-        AttributeTask::LoadMethod(o, name) => Ok(load::load_method(world, o, name)),
-        AttributeTask::Invoke(method, args, kw) => load::invoke(world, method, args, kw),
+        AttributeTask::GetAttr(o, name) => return get_attr::get_attr(world, o, name),
+        AttributeTask::Generic(o, name) => return Ok(generic::generic(world, o, name)),
+        AttributeTask::GenericOpt(o, name, dict) => return Ok(generic::generic_opt(
+            world, o, name, dict,
+        )),
+        AttributeTask::TypeGet(class, name) => return Ok(class_get::type_get(world, class, name)),
+        AttributeTask::LoadMethod(o, name) => return Ok(load::load_method(world, o, name)),
+        AttributeTask::Invoke(method, args, kw) => return load::invoke(world, method, args, kw),
         AttributeTask::GenericSet(o, name, value) => {
-            object_set::generic_set(world, o, name, value)
+            return object_set::generic_set(world, o, name, value);
         }
-        AttributeTask::SetAttr(o, name, value) => setting::set_attr(world, o, name, value),
-        AttributeTask::TypeSet(class, name, value) => setting::type_set(world, class, name, value),
-        AttributeTask::Special(o, name, args, kw) => { special::special(world, o, name, args, kw) }
-        AttributeTask::Bind(m, o, class) => Ok(binding::bind(world, m, o, class)),
-        AttributeTask::HasAttr(o, name) => Ok(get_attr::has_attr(o, name)),
+        AttributeTask::SetAttr(o, name, value) => return setting::set_attr(world, o, name, value),
+        AttributeTask::TypeSet(class, name, value) => return setting::type_set(
+            world, class, name, value,
+        ),
+        AttributeTask::Special(o, name, args, kw) => {
+            return special::special(world, o, name, args, kw);
+        }
+        AttributeTask::Bind(m, o, class) => return Ok(binding::bind(world, m, o, class)),
+        AttributeTask::HasAttr(o, name) => return Ok(get_attr::has_attr(o, name)),
     }
 }
 
@@ -86,17 +92,17 @@ pub fn resume(
     ensures safe { Leaves of_attribute_kept world.old world.new result }
 {
     match kept {
-        AttributeKept::Pass => Ok(Step::End(answer)),
-        AttributeKept::GetAttr(o, name) => get_attr::or_get_attr(world, o, name, answer),
-        AttributeKept::HasAttr => Ok(Step::End(is_some(answer))),
-        AttributeKept::Maybe => Ok(Step::End(maybe(answer))),
-        AttributeKept::Method => Ok(Step::End(method(answer))),
+        AttributeKept::Pass => return Ok(Step::End(answer)),
+        AttributeKept::GetAttr(o, name) => return get_attr::or_get_attr(world, o, name, answer),
+        AttributeKept::HasAttr => return Ok(Step::End(is_some(answer))),
+        AttributeKept::Maybe => return Ok(Step::End(maybe(answer))),
+        AttributeKept::Method => return Ok(Step::End(method(answer))),
         AttributeKept::AfterBind(args, kw) => match answer {
             Ok(Answer::Value(bound)) => {
                 let task = Task::Call(CallTask::Call(bound, args, kw));
-                Ok(Step::Ask(task, AttributeKept::Pass))
+                return Ok(Step::Ask(task, AttributeKept::Pass));
             }
-            other => Ok(Step::End(other)),
+            other => return Ok(Step::End(other)),
         },
     }
 }

@@ -90,34 +90,34 @@ pub fn resume(
     ensures safe { Leaves of_eval_kept world.old world.new result }
 {
     match kept {
-        EvalKept::Pass => Ok(Step::End(answer)),
+        EvalKept::Pass => return Ok(Step::End(answer)),
         EvalKept::Operands(e, values) => match object_of(answer) {
-            Ok(value) => one_more(world, e, values, value),
-            Err(other) => Ok(Step::End(other)),
+            Ok(value) => return one_more(world, e, values, value),
+            Err(other) => return Ok(Step::End(other)),
         },
-        EvalKept::Load(e) => loaded(world, e, answer),
-        EvalKept::Arguments(e, called, values) => argued(world, e, called, values, answer),
+        EvalKept::Load(e) => return loaded(world, e, answer),
+        EvalKept::Arguments(e, called, values) => return argued(world, e, called, values, answer),
         EvalKept::Key(e, pairs) => {
             let step = keyed(world, e, pairs, answer);
-            Ok(step)
+            return Ok(step);
         }
-        EvalKept::Value(e, pairs, key) => valued(world, e, pairs, key, answer),
-        EvalKept::Made(outcome) => made(world, outcome, answer),
+        EvalKept::Value(e, pairs, key) => return valued(world, e, pairs, key, answer),
+        EvalKept::Made(outcome) => return made(world, outcome, answer),
         EvalKept::Count(counted, object) => {
             let step = with_count(world, counted, object, answer);
-            Ok(step)
+            return Ok(step);
         }
         EvalKept::Start(part, object, stop) => {
             let step = with_start(world, part, object, stop, answer);
-            Ok(step)
+            return Ok(step);
         }
         EvalKept::Stop(part, object, start) => {
             let step = with_stop(world, part, object, start, answer);
-            Ok(step)
+            return Ok(step);
         }
         EvalKept::Branch(chosen, other) => {
             let step = branch(world, chosen, other, answer);
-            Ok(step)
+            return Ok(step);
         }
     }
 }
@@ -178,11 +178,11 @@ fn next_operand(
 {
     let form = world.form(e);
     match operand(form, values.len()) {
-        Some(operand) => Ok(Step::Ask(
+        Some(operand) => return Ok(Step::Ask(
             Task::Eval(EvalTask::Eval(evaluated(world, form, operand))),
             EvalKept::Operands(e, values),
         )),
-        None => own_step(world, e, values),
+        None => return own_step(world, e, values),
     }
 }
 
@@ -225,41 +225,41 @@ fn own_step(
 {
     let alloc = world.alloc();
     match own_of(alloc, world.form(e))? {
-        Own::Const(constant) => const_step(world, constant),
+        Own::Const(constant) => return const_step(world, constant),
         Own::Name(name) => {
             let step = name_step(world, name);
-            Ok(step)
+            return Ok(step);
         }
-        Own::Bind(name) => bind_step(world, name, one_of(&values)),
-        Own::Tuple => tuple_step(world, values),
-        Own::List => list_step(world, values),
-        Own::Dict => next_key(world, e, Vec::new(alloc)),
-        Own::Func(name, params, rest, body) => func_step(world, name, params, rest, body),
+        Own::Bind(name) => return bind_step(world, name, one_of(&values)),
+        Own::Tuple => return tuple_step(world, values),
+        Own::List => return list_step(world, values),
+        Own::Dict => return next_key(world, e, Vec::new(alloc)),
+        Own::Func(name, params, rest, body) => return func_step(world, name, params, rest, body),
         Own::Attr(name) => {
             let step = attr_step(name, one_of(&values));
-            Ok(step)
+            return Ok(step);
         }
         Own::SetAttr(name) => {
             let step = set_attr_step(name, &values);
-            Ok(step)
+            return Ok(step);
         }
         Own::DelAttr(name) => {
             let step = del_attr_step(name, one_of(&values));
-            Ok(step)
+            return Ok(step);
         }
-        Own::Call(func) => call_step(world, e, func, one_of(&values)),
-        Own::Op(word) => op_step(world, word, &values),
+        Own::Call(func) => return call_step(world, e, func, one_of(&values)),
+        Own::Op(word) => return op_step(world, word, &values),
         Own::If(chosen, other) => {
             let step = if_step(chosen, other, one_of(&values));
-            Ok(step)
+            return Ok(step);
         }
         Own::Seq => {
             let step = seq_step(world, &values);
-            Ok(step)
+            return Ok(step);
         }
-        Own::Raise(kind) => Ok(raise_step(kind)),
+        Own::Raise(kind) => return Ok(raise_step(kind)),
         Own::Class(name, bases, keys, names) => {
-            class_step(world, name, bases, &keys, &names, &values)
+            return class_step(world, name, bases, &keys, &names, &values);
         }
     }
 }
@@ -319,13 +319,13 @@ fn const_step(world: &mut World, constant: Constant) -> Result<Step<EvalKept>, O
     ensures safe { Leaves of_eval_kept world.old world.new result }
 {
     match constant {
-        Constant::None => Ok(Step::End(Ok(Answer::Value(world.fixed(Fixed::None))))),
-        Constant::False => Ok(Step::End(Ok(Answer::Value(world.fixed(Fixed::False))))),
-        Constant::True => Ok(Step::End(Ok(Answer::Value(world.fixed(Fixed::True))))),
+        Constant::None => return Ok(Step::End(Ok(Answer::Value(world.fixed(Fixed::None))))),
+        Constant::False => return Ok(Step::End(Ok(Answer::Value(world.fixed(Fixed::False))))),
+        Constant::True => return Ok(Step::End(Ok(Answer::Value(world.fixed(Fixed::True))))),
         Constant::Int(z) => {
             let class = world.built_in(BuiltIn::Int);
             let node = world.make_node(class, Payload::Number(z as i128))?;
-            Ok(Step::End(Ok(Answer::Value(node))))
+            return Ok(Step::End(Ok(Answer::Value(node))));
         }
         Constant::Str(text) => {
             if !is_within_limit(text.len()) {
@@ -333,7 +333,7 @@ fn const_step(world: &mut World, constant: Constant) -> Result<Step<EvalKept>, O
             }
             let class = world.built_in(BuiltIn::Str);
             let node = world.make_node(class, Payload::Text(text))?;
-            Ok(Step::End(Ok(Answer::Value(node))))
+            return Ok(Step::End(Ok(Answer::Value(node))));
         }
     }
 }
@@ -350,10 +350,10 @@ fn bind_step(
     ensures safe { Leaves of_eval_kept world.old world.new result }
 {
     match value {
-        None => Ok(Step::raise(Cause::ArgCount)),
+        None => return Ok(Step::raise(Cause::ArgCount)),
         Some(value) => {
             world.bind(name, value)?;
-            Ok(Step::End(Ok(Answer::Value(value))))
+            return Ok(Step::End(Ok(Answer::Value(value))));
         }
     }
 }

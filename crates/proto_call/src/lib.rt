@@ -59,12 +59,12 @@ pub fn begin(world: &mut World, task: CallTask) -> Result<Step<CallKept>, OutOfM
     ensures safe { LeavesOpen of_call_kept bodies_of 0 world.old world.new result }
 {
     match task {
-        CallTask::Call(f, args, kw) => begin_call(world, f, args, kw),
-        CallTask::Body(f, args, kw) => begin_body(world, f, args, kw),
-        CallTask::TypeCall(class, args, kw) => begin_type_call(world, class, args, kw),
-        CallTask::New(by, class, args, kw) => begin_new(world, by, class, args, kw),
-        CallTask::Init(object, args, kw) => begin_init(world, object, args, kw),
-        CallTask::Object(native, args, kw) => begin_object(world, native, args, kw),
+        CallTask::Call(f, args, kw) => return begin_call(world, f, args, kw),
+        CallTask::Body(f, args, kw) => return begin_body(world, f, args, kw),
+        CallTask::TypeCall(class, args, kw) => return begin_type_call(world, class, args, kw),
+        CallTask::New(by, class, args, kw) => return begin_new(world, by, class, args, kw),
+        CallTask::Init(object, args, kw) => return begin_init(world, object, args, kw),
+        CallTask::Object(native, args, kw) => return begin_object(world, native, args, kw),
     }
 }
 
@@ -80,32 +80,34 @@ pub fn resume(
     ensures safe { LeavesOpen of_call_kept bodies_of (bodies_of kept) world.old world.new result }
 {
     match kept {
-        CallKept::Pass => Ok(Step::End(answer)),
+        CallKept::Pass => return Ok(Step::End(answer)),
         CallKept::Named => {
             let ended = caught(as_object(world, answer))?;
-            Ok(Step::End(ended))
+            return Ok(Step::End(ended));
         }
-        CallKept::Native => Ok(native_end(world, answer)),
-        CallKept::Unequal => Ok(equal_given(world, answer)),
+        CallKept::Native => return Ok(native_end(world, answer)),
+        CallKept::Unequal => return Ok(equal_given(world, answer)),
         CallKept::Turned => match answer {
-            Ok(Answer::Truth(b)) => Ok(Step::End(Ok(Answer::Value(world.truth(!b))))),
-            other => Ok(Step::End(other)),
+            Ok(Answer::Truth(b)) => return Ok(Step::End(Ok(Answer::Value(world.truth(!b))))),
+            other => return Ok(Step::End(other)),
         },
         CallKept::Scope => {
             world.close_scope();
-            Ok(Step::End(answer))
+            return Ok(Step::End(answer));
         }
         CallKept::AfterNew(class, args, kw) => match answer {
-            Ok(Answer::Value(object)) => Ok(resume_type_call(world, class, args, kw, object)),
-            other => Ok(Step::End(other)),
+            Ok(Answer::Value(object)) => return Ok(resume_type_call(
+                world, class, args, kw, object,
+            )),
+            other => return Ok(Step::End(other)),
         },
         CallKept::AfterInit(object) => match answer {
-            Err(raised) => Ok(Step::End(Err(raised))),
-            Ok(_given) => Ok(Step::End(Ok(Answer::Value(object)))),
+            Err(raised) => return Ok(Step::End(Err(raised))),
+            Ok(_given) => return Ok(Step::End(Ok(Answer::Value(object)))),
         },
         CallKept::AfterSpecialInit => match answer {
-            Ok(Answer::Value(given)) => Ok(resume_init(world, given)),
-            other => Ok(Step::End(other)),
+            Ok(Answer::Value(given)) => return Ok(resume_init(world, given)),
+            other => return Ok(Step::End(other)),
         },
     }
 }

@@ -26,9 +26,9 @@ pub(crate) fn begin_binop1(
 {
     let candidates = world.candidates(op.left_slot(), op.right_slot(), a, b);
     match (candidates.first, candidates.second) {
-        (Some(entry), next) => enter_candidate(entry, next, a, b),
-        (None, Some(entry)) => enter_candidate(entry, None, a, b),
-        (None, None) => Step::End(Ok(Answer::Value(world.fixed(Fixed::NotImplemented)))),
+        (Some(entry), next) => return enter_candidate(entry, next, a, b),
+        (None, Some(entry)) => return enter_candidate(entry, None, a, b),
+        (None, None) => return Step::End(Ok(Answer::Value(world.fixed(Fixed::NotImplemented)))),
     }
 }
 

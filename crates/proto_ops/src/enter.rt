@@ -31,17 +31,17 @@ pub(crate) fn begin_enter(
         SlotEntry::Native(native) => {
             let args = both(alloc, a, b)?;
             let task = native_task(native, args, Vec::new(alloc));
-            Ok(Step::Ask(task, OperatorKept::Pass))
+            return Ok(Step::Ask(task, OperatorKept::Pass));
         }
         SlotEntry::Wrapper(slot) => {
             let (object, other) = in_order(slot.is_reflected(), a, b);
             let args = alone(alloc, other)?;
             match method_of(world, slot, object, args) {
-                Some(task) => Ok(Step::Ask(task, OperatorKept::Pass)),
-                None => Ok(Step::elsewhere()),
+                Some(task) => return Ok(Step::Ask(task, OperatorKept::Pass)),
+                None => return Ok(Step::elsewhere()),
             }
         }
-        SlotEntry::Unhashable => Ok(Step::elsewhere()),
+        SlotEntry::Unhashable => return Ok(Step::elsewhere()),
     }
 }
 

@@ -86,28 +86,28 @@ pub fn begin(world: &mut World, task: OperatorTask) -> Result<Step<OperatorKept>
     ensures safe { Leaves of_operator_kept world.old world.new result }
 {
     match task {
-        OperatorTask::Add(a, b) => Ok(begin_add(a, b)),
-        OperatorTask::BinOp1(op, a, b) => Ok(begin_binop1(world, op, a, b)),
-        OperatorTask::Enter(entry, a, b) => begin_enter(world, entry, a, b),
-        OperatorTask::Binary(op, a, b) => Ok(begin_binary(op, a, b)),
-        OperatorTask::InplaceOp1(op, a, b) => Ok(begin_inplace_op1(world, op, a, b)),
-        OperatorTask::Inplace(op, a, b) => Ok(begin_inplace(op, a, b)),
-        OperatorTask::Concat(a, b) => begin_concat(world, a, b),
-        OperatorTask::InplaceAdd(a, b) => Ok(begin_inplace_add(a, b)),
-        OperatorTask::InplaceConcat(a, b) => begin_inplace_concat(world, a, b),
-        OperatorTask::Mul(a, b) => Ok(begin_mul(a, b)),
-        OperatorTask::Repeat(a, count) => begin_repeat(world, a, count),
-        OperatorTask::InplaceMul(a, b) => Ok(begin_inplace_mul(a, b)),
-        OperatorTask::InplaceRepeat(a, count) => begin_inplace_repeat(world, a, count),
+        OperatorTask::Add(a, b) => return Ok(begin_add(a, b)),
+        OperatorTask::BinOp1(op, a, b) => return Ok(begin_binop1(world, op, a, b)),
+        OperatorTask::Enter(entry, a, b) => return begin_enter(world, entry, a, b),
+        OperatorTask::Binary(op, a, b) => return Ok(begin_binary(op, a, b)),
+        OperatorTask::InplaceOp1(op, a, b) => return Ok(begin_inplace_op1(world, op, a, b)),
+        OperatorTask::Inplace(op, a, b) => return Ok(begin_inplace(op, a, b)),
+        OperatorTask::Concat(a, b) => return begin_concat(world, a, b),
+        OperatorTask::InplaceAdd(a, b) => return Ok(begin_inplace_add(a, b)),
+        OperatorTask::InplaceConcat(a, b) => return begin_inplace_concat(world, a, b),
+        OperatorTask::Mul(a, b) => return Ok(begin_mul(a, b)),
+        OperatorTask::Repeat(a, count) => return begin_repeat(world, a, count),
+        OperatorTask::InplaceMul(a, b) => return Ok(begin_inplace_mul(a, b)),
+        OperatorTask::InplaceRepeat(a, count) => return begin_inplace_repeat(world, a, count),
         OperatorTask::NativeRepeat(entry, a, count) => {
             let ended = caught(native_repeat(world, entry, a, count))?;
-            Ok(Step::End(ended))
+            return Ok(Step::End(ended));
         }
-        OperatorTask::EnterPower(entry, a, b, c) => begin_enter_power(world, entry, a, b, c),
-        OperatorTask::Power(a, b, c) => Ok(begin_power(world, a, b, c)),
-        OperatorTask::InplacePower(a, b, c) => Ok(begin_inplace_power(world, a, b, c)),
-        OperatorTask::Unary(op, a) => Ok(begin_unary(world, op, a)),
-        OperatorTask::Int(native, args, kw) => begin_int(world, native, args, kw),
+        OperatorTask::EnterPower(entry, a, b, c) => return begin_enter_power(world, entry, a, b, c),
+        OperatorTask::Power(a, b, c) => return Ok(begin_power(world, a, b, c)),
+        OperatorTask::InplacePower(a, b, c) => return Ok(begin_inplace_power(world, a, b, c)),
+        OperatorTask::Unary(op, a) => return Ok(begin_unary(world, op, a)),
+        OperatorTask::Int(native, args, kw) => return begin_int(world, native, args, kw),
     }
 }
 
@@ -123,21 +123,21 @@ pub fn resume(
     ensures safe { Leaves of_operator_kept world.old world.new result }
 {
     match kept {
-        OperatorKept::Pass => Ok(Step::End(answer)),
+        OperatorKept::Pass => return Ok(Step::End(answer)),
         OperatorKept::OrElse(rest) => {
             if !is_unserved(&answer) {
                 return Ok(Step::End(answer));
             }
             let step = go_on(world, rest);
-            Ok(step)
+            return Ok(step);
         }
         OperatorKept::Times(a) => match answer {
-            Ok(Answer::Value(index)) => Ok(times(world, a, index)),
-            other => Ok(Step::End(other)),
+            Ok(Answer::Value(index)) => return Ok(times(world, a, index)),
+            other => return Ok(Step::End(other)),
         },
         OperatorKept::InplaceTimes(a) => match answer {
-            Ok(Answer::Value(index)) => Ok(inplace_times(world, a, index)),
-            other => Ok(Step::End(other)),
+            Ok(Answer::Value(index)) => return Ok(inplace_times(world, a, index)),
+            other => return Ok(Step::End(other)),
         },
     }
 }
@@ -159,17 +159,17 @@ fn go_on(world: &World, rest: Otherwise) -> Step<OperatorKept>
     ensures safe { AllHold world.now (of_step of_operator_kept result) }
 {
     match rest {
-        Otherwise::Unsupported => Step::raise(Cause::UnsupportedOperand),
-        Otherwise::Candidate(next, a, b) => next_candidate(world, next, a, b),
-        Otherwise::Operator(op, a, b) => plain_operator(op, a, b),
-        Otherwise::Join(a, b) => join(world, a, b),
-        Otherwise::InplaceJoin(a, b) => inplace_join(world, a, b),
-        Otherwise::NotConcatenable => Step::raise(Cause::NotConcatenable),
-        Otherwise::RepeatOne(a, b) => repeat_one(world, a, b),
-        Otherwise::InplaceRepeatOne(a, b) => inplace_repeat_one(world, a, b),
-        Otherwise::NotRepeatable => Step::raise(Cause::NotRepeatable),
-        Otherwise::PowerFirst(tried, a, b, c) => power_next(world, tried, a, b, c),
-        Otherwise::PowerLast(tried, a, b, c) => power_last(world, tried, a, b, c),
-        Otherwise::Power(a, b, c) => plain_power(a, b, c),
+        Otherwise::Unsupported => return Step::raise(Cause::UnsupportedOperand),
+        Otherwise::Candidate(next, a, b) => return next_candidate(world, next, a, b),
+        Otherwise::Operator(op, a, b) => return plain_operator(op, a, b),
+        Otherwise::Join(a, b) => return join(world, a, b),
+        Otherwise::InplaceJoin(a, b) => return inplace_join(world, a, b),
+        Otherwise::NotConcatenable => return Step::raise(Cause::NotConcatenable),
+        Otherwise::RepeatOne(a, b) => return repeat_one(world, a, b),
+        Otherwise::InplaceRepeatOne(a, b) => return inplace_repeat_one(world, a, b),
+        Otherwise::NotRepeatable => return Step::raise(Cause::NotRepeatable),
+        Otherwise::PowerFirst(tried, a, b, c) => return power_next(world, tried, a, b, c),
+        Otherwise::PowerLast(tried, a, b, c) => return power_last(world, tried, a, b, c),
+        Otherwise::Power(a, b, c) => return plain_power(a, b, c),
     }
 }

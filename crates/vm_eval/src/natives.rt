@@ -45,27 +45,27 @@ pub fn begin(
     match family_of(entry) {
         Family::Items => {
             let step = native_containers::native_items::begin(world, entry, args, kw)?;
-            Ok(of_items(step))
+            return Ok(of_items(step));
         }
         Family::Parts => {
             let step = native_containers::native_parts::begin(world, entry, args, kw)?;
-            Ok(of_parts(step))
+            return Ok(of_parts(step));
         }
         Family::Comparisons => {
             let step = native_containers::native_compare::begin(world, entry, args, kw)?;
-            Ok(of_comparisons(step))
+            return Ok(of_comparisons(step));
         }
         Family::Repeats => {
             let step = proto_ops::native_repeats::begin(world, entry, args, kw)?;
-            Ok(of_repeats(step))
+            return Ok(of_repeats(step));
         }
         Family::Details => {
             let step = proto_attr::native_details::begin(world, entry, args, kw)?;
-            Ok(of_details(step))
+            return Ok(of_details(step));
         }
         Family::Calls => {
             let step = proto_attr::native_calls::begin(world, entry, args, kw)?;
-            Ok(of_calls(step))
+            return Ok(of_calls(step));
         }
         Family::Plain => {
             let answer = caught(plain_native(
@@ -76,7 +76,7 @@ pub fn begin(
                     kw: &kw,
                 },
             ))?;
-            Ok(Step::End(answer))
+            return Ok(Step::End(answer));
         }
     }
 }
@@ -95,27 +95,27 @@ pub fn resume(
     match kept {
         NativesKept::ForItems(kept) => {
             let step = native_containers::native_items::resume(world, kept, answer)?;
-            Ok(of_items(step))
+            return Ok(of_items(step));
         }
         NativesKept::ForParts(kept) => {
             let step = native_containers::native_parts::resume(world, kept, answer)?;
-            Ok(of_parts(step))
+            return Ok(of_parts(step));
         }
         NativesKept::ForComparisons(kept) => {
             let step = native_containers::native_compare::resume(world, kept, answer)?;
-            Ok(of_comparisons(step))
+            return Ok(of_comparisons(step));
         }
         NativesKept::ForRepeats(kept) => {
             let step = proto_ops::native_repeats::resume(world, kept, answer)?;
-            Ok(of_repeats(step))
+            return Ok(of_repeats(step));
         }
         NativesKept::ForDetails(kept) => {
             let step = proto_attr::native_details::resume(world, kept, answer)?;
-            Ok(of_details(step))
+            return Ok(of_details(step));
         }
         NativesKept::ForCalls(kept) => {
             let step = proto_attr::native_calls::resume(world, kept, answer)?;
-            Ok(of_calls(step))
+            return Ok(of_calls(step));
         }
     }
 }

@@ -41,34 +41,34 @@ pub(crate) fn made(
     ensures safe { Leaves of_eval_kept world.old world.new result }
 {
     match outcome {
-        Outcome::Same => Ok(Step::End(answer)),
+        Outcome::Same => return Ok(Step::End(answer)),
         Outcome::Nothing => match answer {
-            Ok(_given) => Ok(Step::End(Ok(Answer::Value(world.fixed(Fixed::None))))),
-            Err(raised) => Ok(Step::End(Err(raised))),
+            Ok(_given) => return Ok(Step::End(Ok(Answer::Value(world.fixed(Fixed::None))))),
+            Err(raised) => return Ok(Step::End(Err(raised))),
         },
         Outcome::Truth => match answer {
-            Ok(Answer::Truth(b)) => Ok(Step::End(Ok(Answer::Value(world.truth(b))))),
-            other => Ok(Step::End(other)),
+            Ok(Answer::Truth(b)) => return Ok(Step::End(Ok(Answer::Value(world.truth(b))))),
+            other => return Ok(Step::End(other)),
         },
         Outcome::Negated => match answer {
-            Ok(Answer::Truth(b)) => Ok(Step::End(Ok(Answer::Value(world.truth(!b))))),
-            other => Ok(Step::End(other)),
+            Ok(Answer::Truth(b)) => return Ok(Step::End(Ok(Answer::Value(world.truth(!b))))),
+            other => return Ok(Step::End(other)),
         },
         Outcome::Number => match answer {
-            Ok(Answer::Number(z)) => new_number(world, z),
-            other => Ok(Step::End(other)),
+            Ok(Answer::Number(z)) => return new_number(world, z),
+            other => return Ok(Step::End(other)),
         },
         Outcome::List => match answer {
-            Ok(Answer::Objects(items)) => list_step(world, items),
-            other => Ok(Step::End(other)),
+            Ok(Answer::Objects(items)) => return list_step(world, items),
+            other => return Ok(Step::End(other)),
         },
         Outcome::Tuple => match answer {
-            Ok(Answer::Objects(items)) => tuple_step(world, items),
-            other => Ok(Step::End(other)),
+            Ok(Answer::Objects(items)) => return tuple_step(world, items),
+            other => return Ok(Step::End(other)),
         },
         Outcome::Item => match answer {
-            Ok(Answer::Exhausted) => Ok(Step::raise(Cause::IterEnd)),
-            other => Ok(Step::End(other)),
+            Ok(Answer::Exhausted) => return Ok(Step::raise(Cause::IterEnd)),
+            other => return Ok(Step::End(other)),
         },
     }
 }

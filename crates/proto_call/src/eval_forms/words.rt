@@ -28,30 +28,30 @@ pub(crate) fn op_step(
     ensures safe { Leaves of_eval_kept world.old world.new result }
 {
     match manner_of(word) {
-        Manner::HasAttr => has_attr_step(world, values),
+        Manner::HasAttr => return has_attr_step(world, values),
         Manner::Asks(outcome) => {
             let step = ask_for(world, word, outcome, values);
-            Ok(step)
+            return Ok(step);
         }
-        Manner::Counts(counted) => Ok(counted_step(counted, values)),
-        Manner::Slices => Ok(slice_step(values)),
-        Manner::SetsSlice => Ok(set_slice_step(values)),
-        Manner::DeletesSlice => Ok(del_slice_step(values)),
+        Manner::Counts(counted) => return Ok(counted_step(counted, values)),
+        Manner::Slices => return Ok(slice_step(values)),
+        Manner::SetsSlice => return Ok(set_slice_step(values)),
+        Manner::DeletesSlice => return Ok(del_slice_step(values)),
         Manner::IsSame => {
             let step = is_step(world, values);
-            Ok(step)
+            return Ok(step);
         }
         Manner::TypeOf => {
             let step = type_step(world, values);
-            Ok(step)
+            return Ok(step);
         }
         Manner::IsCallable => {
             let step = callable_step(world, values);
-            Ok(step)
+            return Ok(step);
         }
         Manner::Formats => {
             let step = format_step(world, values);
-            Ok(step)
+            return Ok(step);
         }
     }
 }
@@ -63,8 +63,8 @@ fn ask_for(world: &World, word: Word, outcome: Outcome, values: &[PyObjectRef]) 
     ensures safe { AllHold world.now (of_step of_eval_kept result) }
 {
     match task_for(world, word, values) {
-        None => Step::raise(Cause::ArgCount),
-        Some(task) => Step::Ask(task, EvalKept::Made(outcome)),
+        None => return Step::raise(Cause::ArgCount),
+        Some(task) => return Step::Ask(task, EvalKept::Made(outcome)),
     }
 }
 
