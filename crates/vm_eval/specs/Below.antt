@@ -19,23 +19,23 @@ pub use Rattle.class_world.specs.Held.{Held}
 pub use Rattle.class_world.specs.Names.{AddsName}
 pub use Rattle.class_world.specs.NewHeap.{of_slots, refused_heap, slot_texts}
 pub use Rattle.class_world.specs.Reading.{IsReadable, Reading, Reads, answer_of, bindings, datum, ended_of, plain, protocol_job, spelled, spelled_option, task_of}
-pub use Rattle.class_world.specs.Rows.{EndsAs, Goes, LeavesEnd}
+pub use Rattle.class_world.specs.Rows.{EndsAs, LeavesEnd}
 pub use Rattle.class_world.specs.Sound.{AllHold, AreNames, Claim, Grows, Holding, Holds, IsClass, IsExpression, IsName, IsNode, IsOf, IsOffset, Lasts, class_in, home_of, of_binding, of_class_ref, of_each, of_name_ref, of_option, of_payload}
 pub use Rattle.class_world.specs.declared.world.World.{World}
 pub use Rattle.native_containers.specs.NativeCompare.Rows.{compared_stands, of_compared_kept}
-pub use Rattle.native_containers.specs.NativeCompare.Say.{compare_native_say, compares_items}
+pub use Rattle.native_containers.specs.NativeCompare.Say.{compare_native_say, compares_items, compared_job_say}
 pub use Rattle.native_containers.specs.NativeItems.Rows.{item_stands, of_item_kept}
-pub use Rattle.native_containers.specs.NativeItems.Say.{asks_for_items, items_native_say}
+pub use Rattle.native_containers.specs.NativeItems.Say.{asks_for_items, items_native_say, item_job_say}
 pub use Rattle.native_containers.specs.NativeParts.Rows.{of_parts_kept, parts_stands}
-pub use Rattle.native_containers.specs.NativeParts.Say.{asks_for_parts, parts_native_say}
+pub use Rattle.native_containers.specs.NativeParts.Say.{asks_for_parts, parts_native_say, parts_job_say}
 pub use Rattle.native_containers.specs.NativeTexts.Say.{compare_text_say, text_say}
 pub use Rattle.native_containers.specs.Say.{dict_say, iterator_say, list_say, tuple_say}
 pub use Rattle.plain_machine.specs.Answer.{Ending, NoUnits, Out, Outcome, Over, Run, answer, answering, asked, carry, plain_run, reach, replied}
 pub use Rattle.plain_machine.specs.Change.{SetBases, apply, without_own_attr}
 pub use Rattle.plain_machine.specs.Known.{the_type}
-pub use Rattle.plain_machine.specs.Plain.{ABuiltinMethod, AClassMethod, AStaticMethod, Answered, Bindings, Datum, DoCollect, DoContains, DoCount, DoEval, DoFind, DoGetIter, DoHint, DoIndex, DoIsTrue, DoLength, DoNext, DoWhole, Ends, PlainTask, PlainWorld, ProtocolJob, Said, Saying, ToAttribute, ToCall, ToClass, ToCompare, ToDescriptor, ToEval, ToNative, ToObject, ToOperator, ToProtocol}
+pub use Rattle.plain_machine.specs.Plain.{ABuiltinMethod, AClassMethod, AStaticMethod, Answered, Bindings, Datum, DoCollect, DoContains, DoCount, DoEval, DoFind, DoGetIter, DoHint, DoIndex, DoIsTrue, DoLength, DoNext, DoWhole, Ended, Ends, PlainTask, PlainWorld, ProtocolJob, Said, Saying, ToAttribute, ToCall, ToClass, ToCompare, ToDescriptor, ToEval, ToNative, ToObject, ToOperator, ToProtocol, Told}
 pub use Rattle.plain_machine.specs.Row.{Row, elsewhere, end}
-pub use Rattle.plain_machine.specs.Rows.{Pending, fresh, given}
+pub use Rattle.plain_machine.specs.Rows.{Pending}
 pub use Rattle.plain_machine.specs.Show.{show}
 pub use Rattle.plain_machine.specs.Sound.{IsSound, read_offset, set_offset}
 pub use Rattle.plain_machine.specs.Start.{start}
@@ -72,7 +72,7 @@ pub use Rattle.proto_object.specs.Rows.{object_stands, of_object_kept}
 pub use Rattle.proto_object.specs.Say.{object_job_say}
 pub use Rattle.proto_ops.specs.NativeNumbers.Say.{arithmetic_say, bits_say, compare_say, fixed_say, number_say}
 pub use Rattle.proto_ops.specs.NativeRepeats.Rows.{of_repeat_kept, repeat_stands}
-pub use Rattle.proto_ops.specs.NativeRepeats.Say.{repeat_native_say, repeats}
+pub use Rattle.proto_ops.specs.NativeRepeats.Say.{repeat_native_say, repeats, repeat_job_say}
 pub use Rattle.proto_ops.specs.ProtoCompare.Rows.{compare_stands, of_compare_kept}
 pub use Rattle.proto_ops.specs.ProtoCompare.Say.{compare_job_say}
 pub use Rattle.proto_ops.specs.Rows.{of_operator_kept, operator_stands}
