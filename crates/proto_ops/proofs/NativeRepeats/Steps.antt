@@ -1,10 +1,13 @@
 -- The steps of a repetition by name.
 use Rattle.proto_ops.proofs.Below.{List, [], Option, Some, None, Ok, Err, refl, sym, ap, ◌∙◌, subst, Vec, ℤ, Result, NativeEntry, Raised as Fault, RepeatTooLong, PyObjectRef, PyStrInterned, Answer, Value, Ask, End, PlainWorld, Bindings, Answered, ReadObjects, DoIndex, ToNative, ToProtocol, Told, Asks, Ends, Row, elsewhere, value, within_index, datum_at, number_of, World, Reading, bindings, plain, EndsAs, Steps, as_said, with_read, RepeatKept, Repeated, Enters, repeat_stands, entry_of, kind_of, repeat_by_kind, repeat_by_name, repeat_job_say, repeat_rest, repeat_stood}
 use Rattle.std.proofs.Common.{◌≡◌, ◌∷◌}
+use Rattle.py_node.specs.Stops.{Ended, sorted}
+use Rattle.py_node.specs.declared.stop.Stop.{Stop}
 use Rattle.py_node.specs.declared.protocol.ProtocolTask.TheVariants as protocol
 use Rattle.py_node.specs.declared.task.Task.TheVariants as task
 use Rattle.proto_ops.specs.declared.native_repeats.kind.Repeated.TheVariants as repeated
 use Rattle.proto_ops.specs.NativeRepeats.Rows.{Resumes}
+use Rattle.row_kit.proofs.Ended.{sorted_ends}
 
 -- the kind of a kind's native is that kind
 pub kind-of-entry : (k : Repeated) → kind_of (entry_of k) ≡ Some k
@@ -57,13 +60,20 @@ given-says : (u : PlainWorld) (k : RepeatKept) (i : PyObjectRef) → repeat_job_
 given-says u k i = says-so u (entry_of k.kind) k.kind [] [] (ReadObjects (k.object ∷ k.items.items) ∷ (Answered (value i) ∷ [])) (kind-of-entry k.kind)
 
 -- what was kept is repeated
-pub given-ends : (k : RepeatKept) (i : PyObjectRef) (old new : World) (m : Option ℤ) (z : ℤ) (r : Result Answer Fault) → ((t : Reading) → number_of (datum_at (plain t old) i) ≡ m) → Counts m z → EndsAs (λ t u. repeat_stood u (entry_of k.kind) k.object k.items.items z) old new r → Resumes k (Ok (Value i)) old new (End r)
+given-ends : (k : RepeatKept) (i : PyObjectRef) (old new : World) (m : Option ℤ) (z : ℤ) (r : Result Answer Fault) → ((t : Reading) → number_of (datum_at (plain t old) i) ≡ m) → Counts m z → EndsAs (λ t u. repeat_stood u (entry_of k.kind) k.object k.items.items z) old new r → Resumes k (Ok (Value i)) old new (End r)
 given-ends k i old new m z r number counts ends = λ t q.
     let h = ends t q in
     let u = plain t old in
     let go = λ (n : ℤ). as_said (repeat_stood u (entry_of k.kind) k.object k.items.items n) in
     let said = given-says u k i ∙ ap (λ n. within_index u RepeatTooLong n go []) (number t) ∙ counts u go [] ∙ h.1 in
     (h.0, subst (λ s. Steps repeat_job_say (repeat_stands t) t (ToNative (entry_of k.kind) [] []) (ReadObjects (k.object ∷ k.items.items) ∷ (Answered (value i) ∷ [])) s (End r) new) (sym said) (refl, refl))
+
+-- the same, where it is caught how that ended
+pub given-caught : (k : RepeatKept) (i : PyObjectRef) (old new : World) (m : Option ℤ) (z : ℤ) (n : NativeEntry) (rs : List PyObjectRef) (res : Result Answer Stop) (r : Result Answer Fault) → ((t : Reading) → number_of (datum_at (plain t old) i) ≡ m) → Counts m z → n ≡ entry_of k.kind → rs ≡ k.items.items → Ok r ≡ sorted res → Ended res (EndsAs (λ t u. repeat_stood u n k.object rs z) old new) → Resumes k (Ok (Value i)) old new (End r)
+given-caught k i old new m z n rs res r number counts entry items caught ends =
+    let by_entry = subst (λ e. Ended res (EndsAs (λ t u. repeat_stood u e k.object rs z) old new)) entry ends in
+    let by_items = subst (λ xs. Ended res (EndsAs (λ t u. repeat_stood u (entry_of k.kind) k.object xs z) old new)) items by_entry in
+    given-ends k i old new m z r number counts (sorted_ends res r (EndsAs (λ t u. repeat_stood u (entry_of k.kind) k.object k.items.items z) old new) caught by_items)
 
 -- or the number is refused
 pub given-refused : (k : RepeatKept) (i : PyObjectRef) (old : World) (m : Option ℤ) (x : Fault) → ((t : Reading) → number_of (datum_at (plain t old) i) ≡ m) → ((u : PlainWorld) (go : ℤ → Row) (told : Told) → within_index u RepeatTooLong m go told ≡ Ends u (Err x)) → Resumes k (Ok (Value i)) old old (End (Err x))
