@@ -2,8 +2,7 @@
 pub use Rattle.class_world.proofs.Claims.{more-nodes, no-nodes}
 pub use Rattle.class_world.proofs.Filled.{two-hold}
 pub use Rattle.class_world.specs.Reading.{datum, plain}
-pub use Rattle.proto_ops.proofs.Below.{AText, Answered, Ask, Ends, Equal, FitsSigned, OfStr, Ordered, Truth, ended_with, is_not_implemented, native_repeat, quotient, remainder, repeat, the_str, total}
-unfoldable pub use Rattle.proto_ops.proofs.Below.{compare_job_say}
+pub use Rattle.proto_ops.proofs.Below.{AText, Answered, Ask, DoBoolEq, DoIdEq, Ends, Equal, FitsSigned, OfStr, Ordered, Truth, asks-follow, compare_group, ended_with, is_not_implemented, native_repeat, quotient, remainder, repeat, the_str, total}
 pub use Rattle.proto_ops.proofs.Entered.{sum-made}
 pub use Rattle.proto_ops.proofs.Fits.{total-is}
 pub use Rattle.proto_ops.proofs.NativeNumbers.Pair.{pair-ends}

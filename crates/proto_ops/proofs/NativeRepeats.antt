@@ -1,3 +1,2 @@
 pub mod Lists
 pub mod Said
-pub mod Steps
