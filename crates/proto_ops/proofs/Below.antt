@@ -6,7 +6,6 @@ pub use Rattle.plain_machine.specs.Plain.{AList, ANumber, AText, ATuple, Answere
 pub use Rattle.proto_ops.specs.Below.{Answer, AreNodes, Held, IfErr, IfOk, NativeEntry, OfList, OfStr, OfTuple, PyComparisonOp, PyObjectRef, PyStrInterned, Raised, Reading, Reads, RepeatTooLong, Result, Row, SomeIff, Text, Vec, World, as_said, ask, bindings, datum_at, elsewhere, end, eqb, is_not_implemented, next_node, number_of, or_else, pass, plain, repeat, value, w128, with_node, with_read, within_index, ℤ}
 pub use Rattle.proto_ops.specs.NativeNumbers.Numbers.{quotient, remainder}
 pub use Rattle.proto_ops.specs.NativeNumbers.Say.{divided, divided_by, pair_made}
-pub use Rattle.proto_ops.specs.NativeRepeats.Rows.{Enters, repeat_group, repeat_stands}
 pub use Rattle.proto_ops.specs.NativeRepeats.Say.{ended_with, entry_of, kind_of, list_stood, repeat_by_kind, repeat_by_name, repeat_rest, repeat_stood}
 unfoldable pub use Rattle.proto_ops.specs.NativeRepeats.Say.{repeat_job_say}
 pub use Rattle.proto_ops.specs.ProtoCompare.Comparisons.{swapped}

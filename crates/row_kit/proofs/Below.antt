@@ -26,7 +26,6 @@ pub use Rattle.row_kit.specs.ClassAttributes.{keyed}
 pub use Rattle.row_kit.specs.ClassNames.{given, is_getset, unless_getset}
 pub use Rattle.row_kit.specs.GiveContainers.{list_made, pairs_made}
 pub use Rattle.row_kit.specs.OfSignatures.Signature.{HasNoSignature, IsSignature, StandsAt, ending, opening, signature_after, signature_of, up_to_ending}
-pub use Rattle.row_kit.specs.ProtoBase.Each.{all_items, items_told}
 pub use Rattle.row_kit.specs.Questions.{has_null}
 pub use Rattle.row_kit.specs.Say.{int_made}
 pub use Rattle.std.proofs.Common.{Bool, Err, List, None, Ok, Option, Some, T, [], ap, arith, cond, drop, eqb, false, get_or, inl, inr, length, length-append, map, nat_lt, refl, subst, suc, sym, take, true, true≢false, zero, ℕ, ◌∙◌}

@@ -43,11 +43,6 @@ all_items w it rs go (Answered (Ok AsExhausted) ∷ more) = go rs more
 all_items w it rs go (Answered r ∷ more) = Ends w r
 all_items w it rs go _ = cond (nat_le (length rs) most_items) (pass w (ToProtocol (DoNext it))) (Ends w (fault TooLong))
 
--- some items, as a row is told them
-abbrev pub items_told : List PyObjectRef → Told → Told
-items_told [] more = more
-items_told (v ∷ vs) more = Answered (value v) ∷ items_told vs more
-
 -- the number that a search goes on with, or how it ends
 abbrev pub turned : PlainWorld → Result ℕ Ended → (ℕ → Said) → Said
 turned w (Ok n) go = go n
