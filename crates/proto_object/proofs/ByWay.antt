@@ -4,7 +4,7 @@ use Rattle.std.proofs.Common.{◌≡◌, ◌∷◌, ◌&&◌}
 use Rattle.py_node.specs.declared.protocol.ObjectTask.TheVariants as object
 use Rattle.py_node.specs.declared.task.Task.TheVariants as task
 use Rattle.proto_object.specs.declared.ObjectKept.TheVariants.{Pass}
-use Rattle.proto_object.proofs.InTurn.{reads-each, takes-turn}
+use Rattle.proto_object.proofs.InTurn.{reads-each}
 
 -- a test by a class: its task, the name of the special method, what is tested and the class, what is asked in the plain way and of each object of a tuple, and the way that it has
 pub record Test : Type 0 where

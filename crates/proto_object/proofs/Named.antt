@@ -1,5 +1,5 @@
 -- The names of attributes, and the keys that are none of them.
-use Rattle.proto_object.proofs.Below.{ℕ, zero, suc, Bool, true, false, cond, not, List, [], length, filter, drop, get_or, Option, Some, None, refl, sym, ap, ◌∙◌, subst, arith, append_assoc, eqb, slice_get, is_some, bytes_eq-Decides, eq-eqb, eqb-true, PyObjectRef, PyStrInterned, Raised as Fault, Answer, End, is_same_name, value_of, Text, Payload, all_attributes, dict_of, is_text_datum, Datum, AText, PlainWorld, DoDir, Said, is_text, class_at, datum_at, Held, World, Reading, Reads, bindings, datum, plain, EndsAs, IsNode, AreNodes, AllHold, Holds, of_binding, of_each, more-nodes, keyed, or_no_attributes, attributes_for, dir_by, has_name, names_made, other_keys, own_keys, object_job_say, Begins, object_group, ends-follow, read-follows}
+use Rattle.proto_object.proofs.Below.{ℕ, zero, suc, Bool, true, false, cond, not, List, [], length, filter, drop, get_or, Option, Some, None, refl, sym, ap, ◌∙◌, arith, append_assoc, eqb, slice_get, is_some, bytes_eq-Decides, eq-eqb, eqb-true, PyObjectRef, PyStrInterned, Raised as Fault, Answer, End, is_same_name, value_of, Text, Payload, all_attributes, dict_of, is_text_datum, Datum, AText, PlainWorld, DoDir, Said, is_text, class_at, datum_at, Held, World, Reading, Reads, bindings, datum, plain, EndsAs, IsNode, AreNodes, AllHold, Holds, of_binding, of_each, more-nodes, keyed, or_no_attributes, attributes_for, dir_by, has_name, names_made, other_keys, own_keys, object_job_say, Begins, object_group, ends-follow, read-follows}
 use Rattle.std.proofs.Common.{◌≡◌, ◌+◌, ◌<◌, ◌∷◌, ◌++◌}
 use Rattle.std.specs.Prelude.{Result}
 use Rattle.py_node.specs.declared.protocol.ObjectTask.TheVariants as object

@@ -10,9 +10,9 @@ pub use Rattle.plain_machine.specs.Dicts.{Entries, dict_of, is_key}
 pub use Rattle.plain_machine.specs.Known.{the_bool, the_dict, the_int, the_list, the_str, the_type}
 pub use Rattle.plain_machine.specs.Native.{native_task}
 pub use Rattle.plain_machine.specs.Objects.{class_number, is_instance, special_at, type_object}
-pub use Rattle.plain_machine.specs.Plain.{AList, ANumber, ASlice, AText, ATuple, Answered, AsAttribute, AsExhausted, AsFunction, AsMaybe, AsNumber, AsTruth, AsValue, Asks, Bindings, Chose, Datum, DoAbsSub, DoBind, DoCall, DoCollect, DoContains, DoCount, DoDelItem, DoDelSlice, DoDir, DoFind, DoFormat, DoGetAttr, DoGetItem, DoGetIter, DoGetSlice, DoHash, DoHint, DoIndex, DoInst, DoInvoke, DoIsInstance, DoIsSubclass, DoIsTrue, DoItems, DoKeys, DoLength, DoLoadMethod, DoNext, DoRepr, DoSetItem, DoSetSlice, DoSpecial, DoStr, DoSub, DoValues, DoWhole, Ended, Ends, Fact, ObjectJob, PlainTask, PlainWorld, ProtocolJob, ReadObjects, Said, ToAttribute, ToCall, ToObject, ToProtocol, Told}
+pub use Rattle.plain_machine.specs.Plain.{AList, ANumber, ASlice, AText, ATuple, Answered, AsAttribute, AsExhausted, AsFunction, AsMaybe, AsNumber, AsTruth, AsValue, Asks, Bindings, Chose, Datum, DoAbsSub, DoBind, DoCall, DoCollect, DoContains, DoCount, DoDelItem, DoDelSlice, DoDir, DoFind, DoFormat, DoGetAttr, DoGetItem, DoGetIter, DoGetSlice, DoHash, DoHint, DoIndex, DoInst, DoInvoke, DoIsInstance, DoIsSubclass, DoIsTrue, DoItems, DoKeys, DoLength, DoLoadMethod, DoNext, DoRepr, DoSetItem, DoSetSlice, DoSpecial, DoStr, DoSub, DoValues, DoWhole, Ended, Ends, ObjectJob, PlainTask, PlainWorld, ProtocolJob, ReadObjects, Said, ToAttribute, ToCall, ToObject, ToProtocol, Told}
 pub use Rattle.plain_machine.specs.Row.{Row, ask, choose, done, elsewhere, end, fault, fits_index, fork, is_attribute_error, is_not_implemented, make, none, on_done, on_number, on_truth, on_value, pass, read_objects, start, value}
-pub use Rattle.plain_machine.specs.World.{class_at, datum_at, is_text, next_node, number_of, ref, slot_at, with_node}
+pub use Rattle.plain_machine.specs.World.{class_at, datum_at, is_text, next_node, number_of, slot_at, with_node}
 pub use Rattle.py_node.specs.Attributes.{value_of}
 pub use Rattle.py_node.specs.BuiltIns.{place_of}
 pub use Rattle.py_node.specs.Known.{known_text}

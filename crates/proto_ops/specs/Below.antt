@@ -10,10 +10,10 @@ pub use Rattle.plain_machine.specs.Args.{two_of}
 pub use Rattle.plain_machine.specs.Known.{the_int, the_tuple}
 pub use Rattle.plain_machine.specs.Native.{native_task}
 pub use Rattle.plain_machine.specs.Objects.{special_at}
-pub use Rattle.plain_machine.specs.Plain.{AList, ANumber, ATuple, Answered, AsMaybe, AsTruth, AsValue, Asks, Bindings, Chose, CompareJob, Datum, DoAdd, DoBinOp1, DoBinary, DoBoolEq, DoCmp, DoCompare, DoConcat, DoEnter, DoEnterPower, DoIdEq, DoIndex, DoInplace, DoInplaceAdd, DoInplaceConcat, DoInplaceMul, DoInplaceOp1, DoInplacePower, DoInplaceRepeat, DoInt, DoIsTrue, DoMul, DoNativeRepeat, DoPower, DoRepeat, DoRichBool, DoSeqGt, DoSeqLt, DoSpecial, DoUnary, Ended, Ends, OperatorJob, PlainTask, PlainWorld, Read, ReadObjects, Said, ToAttribute, ToCompare, ToNative, ToOperator, ToProtocol, Told}
+pub use Rattle.plain_machine.specs.Plain.{AList, ANumber, ATuple, AsMaybe, AsTruth, AsValue, Asks, Bindings, Chose, CompareJob, Datum, DoAdd, DoBinOp1, DoBinary, DoBoolEq, DoCmp, DoCompare, DoConcat, DoEnter, DoEnterPower, DoIdEq, DoIndex, DoInplace, DoInplaceAdd, DoInplaceConcat, DoInplaceMul, DoInplaceOp1, DoInplacePower, DoInplaceRepeat, DoInt, DoIsTrue, DoMul, DoNativeRepeat, DoPower, DoRepeat, DoRichBool, DoSeqGt, DoSeqLt, DoSpecial, DoUnary, Ended, Ends, OperatorJob, PlainTask, PlainWorld, ReadObjects, Said, ToAttribute, ToCompare, ToNative, ToOperator, ToProtocol, Told}
 pub use Rattle.plain_machine.specs.Row.{Row, ask, choose, elsewhere, end, fault, fits, fork, is_not_implemented, make, most_items, not_implemented, on_truth, on_value, or_else, pass, read_once, start, truth, value, within_index}
 pub use Rattle.plain_machine.specs.Takes.{with_one, with_three, with_two}
-pub use Rattle.plain_machine.specs.World.{candidates_at, class_at, datum_at, goes_first_at, next_node, number_of, ref, slot_at, with_node}
+pub use Rattle.plain_machine.specs.World.{candidates_at, class_at, datum_at, goes_first_at, next_node, number_of, slot_at, with_node}
 pub use Rattle.py_node.specs.BuiltIns.{fixed_false, fixed_none, fixed_not_implemented, fixed_true}
 pub use Rattle.py_node.specs.Known.{known_text}
 pub use Rattle.py_node.specs.Natives.{is_same_entry}
@@ -44,7 +44,6 @@ pub use Rattle.py_node.specs.declared.task.OperatorTask.{OperatorTask}
 pub use Rattle.py_node.specs.declared.task.PyComparisonOp.{PyComparisonOp}
 pub use Rattle.py_node.specs.declared.task.PyComparisonOp.TheVariants.{Eq, Ge, Gt, Le, Lt, Ne}
 pub use Rattle.py_node.specs.declared.task.PyNumberBinaryOp.{PyNumberBinaryOp}
-pub use Rattle.py_node.specs.declared.task.PyNumberBinaryOp.TheVariants.{Add}
 pub use Rattle.py_node.specs.declared.task.PyNumberUnaryOp.{PyNumberUnaryOp}
 pub use Rattle.py_node.specs.declared.task.PyNumberUnaryOp.TheVariants.{Absolute, Invert, Negative, Positive}
 pub use Rattle.py_node.specs.declared.task.Step.{Step}

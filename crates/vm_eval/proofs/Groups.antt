@@ -47,15 +47,15 @@ pub class-among : Among (as_points class_group) (λ t task. ToClass (class_job t
 unfolding say stands
 class-among = record { says = λ t task own u more. refl; keeps = λ t k r u more. refl }
 
-pub operator-among : Among (as_points operator_group) (λ t task. ToOperator (operator_job t task)) ForOperator Any
+pub operator-among : Among operator_group (λ t task. ToOperator (operator_job t task)) ForOperator Any
 unfolding say stands
 operator-among = record { says = λ t task own u more. refl; keeps = λ t k r u more. refl }
 
-pub compare-among : Among (as_points compare_group) (λ t task. ToCompare (compare_job task)) ForCompare Any
+pub compare-among : Among compare_group (λ t task. ToCompare (compare_job task)) ForCompare Any
 unfolding say stands
 compare-among = record { says = λ t task own u more. refl; keeps = λ t k r u more. refl }
 
-pub object-among : Among (as_points object_group) (λ t task. ToObject (object_job task)) ForObject Any
+pub object-among : Among object_group (λ t task. ToObject (object_job task)) ForObject Any
 unfolding say stands
 object-among = record { says = λ t task own u more. refl; keeps = λ t k r u more. refl }
 
@@ -71,14 +71,14 @@ protocol-says : (b : Branch) (task : ProtocolTask) → On b task → (u : PlainW
 unfolding say
 protocol-says b task is u more = ap (λ b. by_branch u b (protocol_job task) more) is
 
-pub number-among : Among (as_points number_group) (λ t task. ToProtocol (protocol_job task)) ForNumber (On branch.Numbers)
+pub number-among : Among number_group (λ t task. ToProtocol (protocol_job task)) ForNumber (On branch.Numbers)
 unfolding stands
 number-among = record { says = λ t. protocol-says branch.Numbers; keeps = λ t k r u more. refl }
 
-pub iter-among : Among (as_points iter_group) (λ t task. ToProtocol (protocol_job task)) ForIteration (On branch.Iterations)
+pub iter-among : Among iter_group (λ t task. ToProtocol (protocol_job task)) ForIteration (On branch.Iterations)
 unfolding stands
 iter-among = record { says = λ t. protocol-says branch.Iterations; keeps = λ t k r u more. refl }
 
-pub items-among : Among (as_points items_group) (λ t task. ToProtocol (protocol_job task)) ForItems (On branch.Items)
+pub items-among : Among items_group (λ t task. ToProtocol (protocol_job task)) ForItems (On branch.Items)
 unfolding stands
 items-among = record { says = λ t. protocol-says branch.Items; keeps = λ t k r u more. refl }

@@ -1,5 +1,5 @@
 -- One turn of the machine keeps the outcome, whatever the rows are.
-use Rattle.vm_eval.proofs.Below.{ℕ, zero, suc, List, [], length, Ok, Err, IfOk, refl, subst, sym, ap, ◌∙◌, arith, zero-add, true, false, cond, nat_lt, lt-ltb, le-ltb, length-append, append_assoc, sum_by_push, DepthLimit, Raised as Fault, Answer, Task, Step, Ask, End, PlainWorld, PlainTask, Ended, Answered, Told, Said, Asks, Ends, fault, Over, NoUnits, Outcome, Out, carry, asked, step, reach, Pending, reach-is, steps-on, World, Reading, Reads, plain, task_of, ended_of, Steps, of_task, LeavesOpen, each-pop, each-push, all-last, all-rest, lasts-on, Kept, say, stands, of_kept, bodies_in, Begins, Resumes, finish, unwind, coming, AllWait, Waits, WaitsAt, Comes, BeginsAt, IsOnItsWay, Reaches}
+use Rattle.vm_eval.proofs.Below.{ℕ, zero, suc, List, [], length, Ok, Err, IfOk, refl, subst, sym, ap, ◌∙◌, arith, zero-add, true, cond, nat_lt, lt-ltb, le-ltb, length-append, append_assoc, sum_by_push, DepthLimit, Raised as Fault, Answer, Task, Step, Ask, End, PlainWorld, PlainTask, Answered, Told, Said, Asks, Ends, fault, Over, NoUnits, Outcome, Out, asked, step, reach, Pending, reach-is, steps-on, World, Reading, Reads, plain, task_of, ended_of, Steps, of_task, LeavesOpen, each-pop, each-push, all-last, all-rest, lasts-on, Kept, say, stands, of_kept, bodies_in, Begins, Resumes, finish, unwind, coming, AllWait, Waits, WaitsAt, Comes, BeginsAt, IsOnItsWay, Reaches}
 use Rattle.std.proofs.Common.{◌≡◌, ◌+◌, ◌<◌, ◌≤◌, ◌∷◌, ◌++◌}
 use Rattle.std.specs.Prelude.{Result}
 use Rattle.vm_eval.specs.declared.stack.End.TheVariants as code

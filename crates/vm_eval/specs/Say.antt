@@ -1,5 +1,5 @@
 -- The rows of all groups.
-use Rattle.vm_eval.specs.Below.{ℕ, List, [], Result, Raised as Fault, Answer, Task, Step, PlainWorld, PlainTask, ProtocolJob, DoIsTrue, DoIndex, DoWhole, DoLength, DoHint, DoGetIter, DoNext, DoCollect, DoContains, DoCount, DoFind, ToEval, ToAttribute, ToDescriptor, ToCall, ToClass, ToOperator, ToCompare, ToProtocol, ToObject, ToNative, Saying, Row, Ended, World, Reading, task_of, Claim, eval_say, eval_stands, of_eval_kept, attribute_say, attribute_stands, of_attribute_kept, descriptor_stands, of_descriptor_kept, call_job_say, call_stands, of_call_kept, bodies_of, class_job_say, class_stands, of_class_kept, descriptor_say, operator_say, operator_stands, of_operator_kept, compare_job_say, compare_stands, of_compare_kept, number_job_say, number_stands, of_number_kept, iter_stands, of_iter_kept, items_stands, of_items_kept, object_stands, of_object_kept, iter_job_say, items_job_say, object_job_say}
+use Rattle.vm_eval.specs.Below.{ℕ, List, Result, Raised as Fault, Answer, Task, Step, PlainWorld, PlainTask, ProtocolJob, DoIsTrue, DoIndex, DoWhole, DoLength, DoHint, DoGetIter, DoNext, DoCollect, DoContains, DoCount, DoFind, ToEval, ToAttribute, ToDescriptor, ToCall, ToClass, ToOperator, ToCompare, ToProtocol, ToObject, ToNative, Saying, Row, Ended, World, Reading, task_of, Claim, eval_say, eval_stands, of_eval_kept, attribute_say, attribute_stands, of_attribute_kept, descriptor_stands, of_descriptor_kept, call_job_say, call_stands, of_call_kept, bodies_of, class_job_say, class_stands, of_class_kept, descriptor_say, operator_say, operator_stands, of_operator_kept, compare_job_say, compare_stands, of_compare_kept, number_job_say, number_stands, of_number_kept, iter_stands, of_iter_kept, items_stands, of_items_kept, object_stands, of_object_kept, iter_job_say, items_job_say, object_job_say}
 use Rattle.row_kit.specs.Points as points
 use Rattle.row_kit.specs.Points.{Group, Point, among, rest_of}
 use Rattle.vm_eval.specs.OfNatives.Say.{NativeJob, native_job_say}
@@ -60,13 +60,13 @@ stands t (ForAttribute kept) = attribute_stands t kept
 stands t (ForDescriptor kept) = descriptor_stands t kept
 stands t (ForCall kept) = rest_of call_job_say (call_stands t kept)
 stands t (ForClass kept) = rest_of class_job_say (class_stands t kept)
-stands t (ForOperator kept) = rest_of operator_say (operator_stands t kept)
-stands t (ForCompare kept) = rest_of compare_job_say (compare_stands t kept)
-stands t (ForNumber kept) = rest_of number_job_say (number_stands t kept)
+stands t (ForOperator kept) = operator_stands t kept
+stands t (ForCompare kept) = compare_stands t kept
+stands t (ForNumber kept) = number_stands t kept
 stands t (ForNative kept) = natives_stands t kept
-stands t (ForIteration kept) = rest_of iter_job_say (iter_stands t kept)
-stands t (ForItems kept) = rest_of items_job_say (items_stands t kept)
-stands t (ForObject kept) = rest_of object_job_say (object_stands t kept)
+stands t (ForIteration kept) = iter_stands t kept
+stands t (ForItems kept) = items_stands t kept
+stands t (ForObject kept) = object_stands t kept
 
 -- all rows, as a group
 abbrev pub machine_group : Group Task Kept

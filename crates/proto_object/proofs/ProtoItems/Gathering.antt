@@ -1,5 +1,5 @@
 -- The items of what a mapping's method gave, one after another.
-use Rattle.proto_object.proofs.Below.{true, false, List, [], length, Result, Ok, Err, sym, ap, ◌∙◌, nat_le, Vec, PyObjectRef, Raised as Fault, TooLong, Answer, Value, Exhausted, Ask, End, the_list, AList, PlainWorld, Answered, Row, make, most_items, refl, value, World, Reading, ended_of, plain, EndsAs, list_made, raised, all_items, IsNoItem, Gathering, Iterating, items_group, items_stands, asks-follow, ends-follow}
+use Rattle.proto_object.proofs.Below.{true, false, List, [], length, Result, Ok, Err, sym, ap, nat_le, Vec, PyObjectRef, Raised as Fault, TooLong, Answer, Value, Exhausted, Ask, End, the_list, AList, PlainWorld, Answered, Row, make, most_items, refl, value, World, Reading, ended_of, plain, EndsAs, list_made, raised, all_items, IsNoItem, Gathering, Iterating, items_group, items_stands, asks-follow, ends-follow}
 use Rattle.std.proofs.Common.{◌≡◌, ◌∷◌, ◌++◌}
 use Rattle.py_node.specs.declared.protocol.ProtocolTask.TheVariants as protocol
 use Rattle.py_node.specs.declared.task.Task.TheVariants as task

@@ -1,6 +1,6 @@
 -- How a search goes on.
-use Rattle.proto_object.proofs.Below.{ℕ, inl, inr, Bool, true, false, cond, [], Result, Ok, Err, refl, sym, ap, ◌∙◌, arith, pos, le-ltb, Raised as Fault, IndexRange, PyObjectRef, Answer, Value, Truth, Exhausted, Method, Ask, End, PlainWorld, AsValue, AsTruth, AsExhausted, Answered, Ended, Ends, Told, end, fault, value, Reading, ended_of, plain, World, number, says, turned, Begun, Next, Equal, Search, Seeking, counted, CountsAlike, IsNoItem, IsNoTruth, Resumes, equal_rest, last_of, seeking, turn_of, iter_group, iter_stands, asks-follow, ends-follow}
-use Rattle.std.proofs.Common.{◌≡◌, ◌+◌, ◌≤◌, ◌⊎◌, ◌∷◌, ◌++◌}
+use Rattle.proto_object.proofs.Below.{ℕ, inl, inr, Bool, true, false, cond, [], Result, Ok, Err, refl, sym, ap, ◌∙◌, arith, pos, le-ltb, Raised as Fault, IndexRange, PyObjectRef, Answer, Value, Truth, Exhausted, Method, Ask, End, PlainWorld, AsValue, AsTruth, AsExhausted, Answered, Ended, Ends, Told, fault, value, Reading, ended_of, plain, World, number, says, turned, Next, Equal, Search, Seeking, counted, CountsAlike, IsNoItem, IsNoTruth, Resumes, equal_rest, last_of, seeking, turn_of, iter_group, iter_stands, asks-follow, ends-follow}
+use Rattle.std.proofs.Common.{◌≡◌, ◌+◌, ◌≤◌, ◌∷◌}
 use Rattle.std.specs.Prelude.{◌^◌}
 use Rattle.py_node.specs.declared.protocol.CompareTask.TheVariants as compare
 use Rattle.py_node.specs.declared.protocol.ProtocolTask.TheVariants as protocol

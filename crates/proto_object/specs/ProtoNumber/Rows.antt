@@ -1,5 +1,5 @@
 -- What the contracts of the rows of numbers, truth values and lengths say.
-use Rattle.proto_object.specs.Below.{List, [], Result, Raised as Fault, IndexReturn, PyObjectRef, Answer, ProtocolTask, Step, PlainWorld, DoCall, ToCall, Said, Ended, ask, end, fault, on_value, World, Reading, protocol_job, Group, Point, Claim, IsNode}
+use Rattle.proto_object.specs.Below.{List, [], Result, Raised as Fault, IndexReturn, Answer, ProtocolTask, Step, PlainWorld, DoCall, ToCall, Said, Ended, ask, end, fault, on_value, World, Reading, protocol_job, Group, Point, Claim, IsNode}
 use Rattle.std.specs.Prelude.{◌∷◌}
 use Rattle.row_kit.specs.Points as points
 use Rattle.proto_object.specs.declared.proto_number.NumberKept.{NumberKept}

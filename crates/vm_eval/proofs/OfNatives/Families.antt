@@ -1,5 +1,5 @@
 -- What a family of natives says is what they say among all.
-use Rattle.vm_eval.proofs.Below.{◌∙◌, [], refl, sym, ap, subst, Result, Raised as Fault, NativeEntry, Answer, Task, Step, End, PlainWorld, Ended, Told, World, Reading, bindings, plain, EndsAs, item_group, item_job_say, parts_group, parts_job_say, compared_group, compared_job_say, repeat_group, repeat_job_say, detail_group, detail_job_say, native_group, asking_job_say, Family, NativesKept, ForParts, ForComparisons, ForRepeats, ForDetails, ForCalls, by_family, family_of, native_by, native_job_say, kept_among, native_job, natives_group, natives_stands, Group, as_points, ended_of, ends-follow, goes-among, read-follows}
+use Rattle.vm_eval.proofs.Below.{◌∙◌, [], refl, sym, ap, subst, Result, Raised as Fault, NativeEntry, Answer, Task, Step, End, PlainWorld, Ended, Told, World, Reading, bindings, plain, EndsAs, item_group, item_job_say, parts_group, parts_job_say, compared_group, compared_job_say, repeat_group, repeat_job_say, detail_group, detail_job_say, native_group, asking_job_say, Family, NativesKept, ForParts, ForComparisons, ForRepeats, ForDetails, ForCalls, by_family, family_of, native_by, native_job_say, kept_among, native_job, natives_group, natives_stands, Group, ended_of, ends-follow, goes-among, read-follows}
 use Rattle.std.proofs.Common.{◌≡◌}
 use Rattle.std.specs.Prelude.{List}
 use Rattle.py_node.specs.declared.refs.PyObjectRef.{PyObjectRef}
@@ -44,7 +44,7 @@ pub comparisons-family : AmongNatives family.Comparisons compared_group ForCompa
 unfolding compared_job_say
 comparisons-family = record { says = λ t n args kw u more. refl; keeps = λ t k r u more. refl }
 
-pub repeats-family : AmongNatives family.Repeats (as_points repeat_group) ForRepeats
+pub repeats-family : AmongNatives family.Repeats repeat_group ForRepeats
 unfolding repeat_job_say
 repeats-family = record { says = λ t n args kw u more. refl; keeps = λ t k r u more. refl }
 

@@ -1,7 +1,7 @@
 -- What the contracts of natives say.
-use Rattle.vm_eval.specs.Below.{List, Result, PyObjectRef, PyStrInterned, Raised as Fault, NativeEntry, Answer, Step, Ended, World, Reading, bindings, Claim, asking_stands, of_native_kept, item_stands, of_item_kept, parts_stands, of_parts_kept, compared_stands, of_compared_kept, repeat_job_say, repeat_stands, of_repeat_kept, detail_stands, of_detail_kept}
+use Rattle.vm_eval.specs.Below.{List, Result, PyObjectRef, PyStrInterned, Raised as Fault, NativeEntry, Answer, Step, Ended, World, Reading, bindings, Claim, asking_stands, of_native_kept, item_stands, of_item_kept, parts_stands, of_parts_kept, compared_stands, of_compared_kept, repeat_stands, of_repeat_kept, detail_stands, of_detail_kept}
 use Rattle.row_kit.specs.Points as points
-use Rattle.row_kit.specs.Points.{Group, Point, among, rest_of}
+use Rattle.row_kit.specs.Points.{Group, Point, among}
 use Rattle.vm_eval.specs.declared.natives.NativesKept.{NativesKept}
 use Rattle.vm_eval.specs.declared.natives.NativesKept.TheVariants.{ForItems, ForParts, ForComparisons, ForRepeats, ForDetails, ForCalls}
 use Rattle.vm_eval.specs.OfNatives.Say.{NativeJob, native_job_say}
@@ -11,7 +11,7 @@ abbrev pub natives_stands : Reading → NativesKept → Ended → Point
 natives_stands t (ForItems kept) = item_stands t kept
 natives_stands t (ForParts kept) = parts_stands t kept
 natives_stands t (ForComparisons kept) = compared_stands t kept
-natives_stands t (ForRepeats kept) = rest_of repeat_job_say (repeat_stands t kept)
+natives_stands t (ForRepeats kept) = repeat_stands t kept
 natives_stands t (ForDetails kept) = detail_stands t kept
 natives_stands t (ForCalls kept) = asking_stands t kept
 

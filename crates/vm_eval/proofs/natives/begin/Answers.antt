@@ -1,4 +1,4 @@
-use Rattle.vm_eval.proofs.Lemmas.{◌∙◌, sym, family-begins, plain-begins, sorted_ends, items-family, parts-family, comparisons-family, repeats-family, details-family, calls-family, repeat_group, old-begins}
+use Rattle.vm_eval.proofs.Lemmas.{◌∙◌, sym, family-begins, plain-begins, sorted_ends, items-family, parts-family, comparisons-family, repeats-family, details-family, calls-family}
 use Rattle.py_node.specs.declared.task.Task.TheVariants as task
 use Rattle.vm_eval.proofs.natives.begin.Goals as goal
 
@@ -24,7 +24,7 @@ pub returns-in_ok-step-in-Repeats-clause-goes : goal.returns-in_ok-step-in-Repea
 returns-in_ok-step-in-Repeats-clause-goes c =
     let a = c.args in
     let step = c.in_ok-step-in-Repeats in
-    family-begins repeats-family a.entry a.args a.kw _ _ step.step c.of_repeats.result (sym c.family_of.ensures ∙ c.in-Repeats.is) c.of_repeats.ensures.step (old-begins repeat_group (task.Native a.entry a.args a.kw) _ _ step.step step.ensures.goes)
+    family-begins repeats-family a.entry a.args a.kw _ _ step.step c.of_repeats.result (sym c.family_of.ensures ∙ c.in-Repeats.is) c.of_repeats.ensures.step step.ensures.goes
 
 pub returns-in_ok-step-in-Details-clause-goes : goal.returns-in_ok-step-in-Details-clause-goes
 returns-in_ok-step-in-Details-clause-goes c =

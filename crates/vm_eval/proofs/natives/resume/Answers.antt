@@ -1,5 +1,4 @@
-use Rattle.vm_eval.proofs.Lemmas.{family-resumes, items-family, parts-family, comparisons-family, repeats-family, details-family, calls-family, repeat_group, old-resumes}
-use Rattle.vm_eval.specs.declared.natives.NativesKept.TheVariants.{ForItems}
+use Rattle.vm_eval.proofs.Lemmas.{family-resumes, items-family, parts-family, comparisons-family, repeats-family, details-family, calls-family}
 use Rattle.vm_eval.proofs.natives.resume.Goals as goal
 
 pub returns-in_ok-step-in-ForItems-clause-goes : goal.returns-in_ok-step-in-ForItems-clause-goes
@@ -20,7 +19,7 @@ returns-in_ok-step-in-ForComparisons-clause-goes c =
 pub returns-in_ok-step-in-ForRepeats-clause-goes : goal.returns-in_ok-step-in-ForRepeats-clause-goes
 returns-in_ok-step-in-ForRepeats-clause-goes c =
     let step = c.in_ok-step-in-ForRepeats in
-    family-resumes repeats-family c.args.kept c.in-ForRepeats.kept c.args.answer _ _ step.step c.of_repeats.result c.in-ForRepeats.is c.of_repeats.ensures.step (old-resumes repeat_group c.in-ForRepeats.kept c.args.answer _ _ step.step step.ensures.goes)
+    family-resumes repeats-family c.args.kept c.in-ForRepeats.kept c.args.answer _ _ step.step c.of_repeats.result c.in-ForRepeats.is c.of_repeats.ensures.step step.ensures.goes
 
 pub returns-in_ok-step-in-ForDetails-clause-goes : goal.returns-in_ok-step-in-ForDetails-clause-goes
 returns-in_ok-step-in-ForDetails-clause-goes c =

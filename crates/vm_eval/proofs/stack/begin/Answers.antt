@@ -1,4 +1,4 @@
-use Rattle.vm_eval.proofs.Lemmas.{refl, leaves-among, leaves-open, of_eval_kept, of_attribute_kept, of_descriptor_kept, of_call_kept, bodies_of, of_class_kept, of_operator_kept, of_compare_kept, of_object_kept, native_job, of_natives_kept, of_kept, bodies_in, begins-among, eval-among, attribute-among, descriptor-among, call-among, class-among, operator-among, compare-among, object-among, native-among, eval_group, call_group, class_group, operator_group, compare_group, object_group, old-begins}
+use Rattle.vm_eval.proofs.Lemmas.{refl, leaves-among, leaves-open, of_eval_kept, of_attribute_kept, of_descriptor_kept, of_call_kept, bodies_of, of_class_kept, of_operator_kept, of_compare_kept, of_object_kept, native_job, of_natives_kept, of_kept, bodies_in, begins-among, eval-among, attribute-among, descriptor-among, call-among, class-among, operator-among, compare-among, object-among, native-among, eval_group, call_group, class_group, old-begins}
 use Rattle.vm_eval.proofs.stack.begin.Goals as goal
 
 pub returns-in_ok-step-in-Eval-clause-goes : goal.returns-in_ok-step-in-Eval-clause-goes
@@ -29,12 +29,12 @@ returns-in_ok-step-in-Class-clause-goes c =
 pub returns-in_ok-step-in-Operator-clause-goes : goal.returns-in_ok-step-in-Operator-clause-goes
 returns-in_ok-step-in-Operator-clause-goes c =
     let step = c.in_ok-step-in-Operator in
-    rw c.in-Operator.is (begins-among operator-among c.in-Operator.task _ _ step.step c.of_operator.result tt c.of_operator.ensures.step (old-begins operator_group c.in-Operator.task _ _ step.step step.ensures.goes))
+    rw c.in-Operator.is (begins-among operator-among c.in-Operator.task _ _ step.step c.of_operator.result tt c.of_operator.ensures.step step.ensures.goes)
 
 pub returns-in_ok-step-in-Compare-clause-goes : goal.returns-in_ok-step-in-Compare-clause-goes
 returns-in_ok-step-in-Compare-clause-goes c =
     let step = c.in_ok-step-in-Compare in
-    rw c.in-Compare.is (begins-among compare-among c.in-Compare.task _ _ step.step c.of_compare.result tt c.of_compare.ensures.step (old-begins compare_group c.in-Compare.task _ _ step.step step.ensures.goes))
+    rw c.in-Compare.is (begins-among compare-among c.in-Compare.task _ _ step.step c.of_compare.result tt c.of_compare.ensures.step step.ensures.goes)
 
 pub returns-in_ok-step-in-Eval-clause-safe : goal.returns-in_ok-step-in-Eval-clause-safe
 returns-in_ok-step-in-Eval-clause-safe c =
@@ -67,7 +67,7 @@ returns-in_ok-step-in-Compare-clause-safe c =
 pub returns-in_ok-step-in-Object-clause-goes : goal.returns-in_ok-step-in-Object-clause-goes
 returns-in_ok-step-in-Object-clause-goes c =
     let step = c.in_ok-step-in-Object in
-    rw c.in-Object.is (begins-among object-among c.in-Object.task _ _ step.step c.of_object.result tt c.of_object.ensures.step (old-begins object_group c.in-Object.task _ _ step.step step.ensures.goes))
+    rw c.in-Object.is (begins-among object-among c.in-Object.task _ _ step.step c.of_object.result tt c.of_object.ensures.step step.ensures.goes)
 
 pub returns-in_ok-step-in-Object-clause-safe : goal.returns-in_ok-step-in-Object-clause-safe
 returns-in_ok-step-in-Object-clause-safe c =

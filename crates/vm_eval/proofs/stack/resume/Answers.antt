@@ -1,4 +1,4 @@
-use Rattle.vm_eval.proofs.Lemmas.{ap, leaves-among, leaves-open, of_eval_kept, of_attribute_kept, of_descriptor_kept, of_call_kept, bodies_of, of_class_kept, of_operator_kept, of_compare_kept, of_number_kept, of_iter_kept, of_items_kept, of_object_kept, of_natives_kept, of_kept, bodies_in, resumes-among, eval-among, attribute-among, descriptor-among, call-among, class-among, operator-among, compare-among, object-among, native-among, number-among, iter-among, items-among, eval_group, call_group, class_group, operator_group, compare_group, object_group, number_group, iter_group, items_group, old-resumes}
+use Rattle.vm_eval.proofs.Lemmas.{ap, leaves-among, leaves-open, of_eval_kept, of_attribute_kept, of_descriptor_kept, of_call_kept, bodies_of, of_class_kept, of_operator_kept, of_compare_kept, of_number_kept, of_iter_kept, of_items_kept, of_object_kept, of_natives_kept, of_kept, bodies_in, resumes-among, eval-among, attribute-among, descriptor-among, call-among, class-among, operator-among, compare-among, object-among, native-among, number-among, iter-among, items-among, eval_group, call_group, class_group, old-resumes}
 use Rattle.vm_eval.specs.declared.protocols.Branch.TheVariants as branch
 use Rattle.vm_eval.proofs.stack.resume.Goals as goal
 
@@ -30,7 +30,7 @@ returns-in_ok-step-in-ForClass-clause-goes c =
 pub returns-in_ok-step-in-ForOperator-clause-goes : goal.returns-in_ok-step-in-ForOperator-clause-goes
 returns-in_ok-step-in-ForOperator-clause-goes c =
     let step = c.in_ok-step-in-ForOperator in
-    resumes-among operator-among c.args.kept c.in-ForOperator.kept c.args.answer _ _ step.step c.of_operator.result c.in-ForOperator.is c.of_operator.ensures.step (old-resumes operator_group c.in-ForOperator.kept c.args.answer _ _ step.step step.ensures.goes)
+    resumes-among operator-among c.args.kept c.in-ForOperator.kept c.args.answer _ _ step.step c.of_operator.result c.in-ForOperator.is c.of_operator.ensures.step step.ensures.goes
 
 pub returns-in_ok-step-in-ForEval-clause-safe : goal.returns-in_ok-step-in-ForEval-clause-safe
 returns-in_ok-step-in-ForEval-clause-safe c =
@@ -59,12 +59,12 @@ returns-in_ok-step-in-ForCall-clause-safe c =
 pub returns-in_ok-step-in-ForCompare-clause-goes : goal.returns-in_ok-step-in-ForCompare-clause-goes
 returns-in_ok-step-in-ForCompare-clause-goes c =
     let step = c.in_ok-step-in-ForCompare in
-    resumes-among compare-among c.args.kept c.in-ForCompare.kept c.args.answer _ _ step.step c.of_compare.result c.in-ForCompare.is c.of_compare.ensures.step (old-resumes compare_group c.in-ForCompare.kept c.args.answer _ _ step.step step.ensures.goes)
+    resumes-among compare-among c.args.kept c.in-ForCompare.kept c.args.answer _ _ step.step c.of_compare.result c.in-ForCompare.is c.of_compare.ensures.step step.ensures.goes
 
 pub returns-in_ok-step-in-ForNumber-clause-goes : goal.returns-in_ok-step-in-ForNumber-clause-goes
 returns-in_ok-step-in-ForNumber-clause-goes c =
     let step = c.in_ok-step-in-ForNumber in
-    resumes-among number-among c.args.kept c.in-ForNumber.kept c.args.answer _ _ step.step c.of_number.result c.in-ForNumber.is c.of_number.ensures.step (old-resumes number_group c.in-ForNumber.kept c.args.answer _ _ step.step step.ensures.goes)
+    resumes-among number-among c.args.kept c.in-ForNumber.kept c.args.answer _ _ step.step c.of_number.result c.in-ForNumber.is c.of_number.ensures.step step.ensures.goes
 
 pub returns-in_ok-step-in-ForCompare-clause-safe : goal.returns-in_ok-step-in-ForCompare-clause-safe
 returns-in_ok-step-in-ForCompare-clause-safe c =
@@ -77,17 +77,17 @@ returns-in_ok-step-in-ForNumber-clause-safe c =
 pub returns-in_ok-step-in-ForIteration-clause-goes : goal.returns-in_ok-step-in-ForIteration-clause-goes
 returns-in_ok-step-in-ForIteration-clause-goes c =
     let step = c.in_ok-step-in-ForIteration in
-    resumes-among iter-among c.args.kept c.in-ForIteration.kept c.args.answer _ _ step.step c.of_iteration.result c.in-ForIteration.is c.of_iteration.ensures.step (old-resumes iter_group c.in-ForIteration.kept c.args.answer _ _ step.step step.ensures.goes)
+    resumes-among iter-among c.args.kept c.in-ForIteration.kept c.args.answer _ _ step.step c.of_iteration.result c.in-ForIteration.is c.of_iteration.ensures.step step.ensures.goes
 
 pub returns-in_ok-step-in-ForItems-clause-goes : goal.returns-in_ok-step-in-ForItems-clause-goes
 returns-in_ok-step-in-ForItems-clause-goes c =
     let step = c.in_ok-step-in-ForItems in
-    resumes-among items-among c.args.kept c.in-ForItems.kept c.args.answer _ _ step.step c.of_items.result c.in-ForItems.is c.of_items.ensures.step (old-resumes items_group c.in-ForItems.kept c.args.answer _ _ step.step step.ensures.goes)
+    resumes-among items-among c.args.kept c.in-ForItems.kept c.args.answer _ _ step.step c.of_items.result c.in-ForItems.is c.of_items.ensures.step step.ensures.goes
 
 pub returns-in_ok-step-in-ForObject-clause-goes : goal.returns-in_ok-step-in-ForObject-clause-goes
 returns-in_ok-step-in-ForObject-clause-goes c =
     let step = c.in_ok-step-in-ForObject in
-    resumes-among object-among c.args.kept c.in-ForObject.kept c.args.answer _ _ step.step c.of_object.result c.in-ForObject.is c.of_object.ensures.step (old-resumes object_group c.in-ForObject.kept c.args.answer _ _ step.step step.ensures.goes)
+    resumes-among object-among c.args.kept c.in-ForObject.kept c.args.answer _ _ step.step c.of_object.result c.in-ForObject.is c.of_object.ensures.step step.ensures.goes
 
 pub returns-in_ok-step-in-ForNative-clause-goes : goal.returns-in_ok-step-in-ForNative-clause-goes
 returns-in_ok-step-in-ForNative-clause-goes c =

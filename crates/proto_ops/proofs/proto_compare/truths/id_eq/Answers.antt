@@ -1,4 +1,4 @@
-use Rattle.proto_ops.proofs.Lemmas.{[], false, arith, eqb, Answered, DoBoolEq, DoIdEq, plain, compare_group, others-ask, asks-follow}
+use Rattle.proto_ops.proofs.Lemmas.{[], false, arith, eqb, Answered, plain, compare_group, others-ask, asks-follow}
 use Rattle.std.proofs.Common.{◌≡◌, ◌∷◌}
 use Rattle.py_node.specs.declared.protocol.CompareTask.TheVariants as compare
 use Rattle.py_node.specs.declared.task.Task.TheVariants as task
