@@ -1,5 +1,5 @@
 -- A sequence is repeated as often as an index says.
-use Rattle.proto_ops.proofs.Below.{◌∙◌, [], Option, Ok, refl, sym, ap, RepeatTooLong, PyObjectRef, Value, Ask, Asks, PlainTask, DoRepeat, DoInplaceRepeat, Told, ToOperator, Row, pass, value, within_index, datum_at, number_of, World, Reading, plain, InplaceTimes, Pass, Times, Resumes, counted_rest, operator_group, operator_stands, asks-follow}
+use Rattle.proto_ops.proofs.Below.{◌∙◌, [], Option, Ok, refl, sym, ap, RepeatTooLong, PyObjectRef, Value, Ask, Asks, PlainTask, DoRepeat, DoInplaceRepeat, Told, ToOperator, Row, pass, value, within_index, datum_at, number_of, PlainWorld, World, Reading, plain, InplaceTimes, Pass, Times, Resumes, counted_rest, operator_group, operator_stands, asks-follow}
 use Rattle.std.proofs.Common.{◌≡◌, ℤ}
 use Rattle.py_node.specs.declared.task.OperatorTask.TheVariants as operator
 use Rattle.py_node.specs.declared.task.Task.TheVariants as task

@@ -49,11 +49,14 @@ module _ {T K : Type 0} (g : Group T K) (row whole : Reading → Point) where
       let k = h t q in
       (k.0, subst (λ s. Steps (g.stands t) t (whole t) s step new) (sym (says t)) (steps-noting (g.stands t) t (row t) (whole t) fact (on t) (row t (plain t old) []) step new k.1))
 
-  pub goes-as : ((t : Reading) (u : PlainWorld) (more : Told) → whole t u more ≡ row t u more) → (old new : World) (step : Step K) → Goes g row old new step → Goes g whole old new step
-  goes-as same old new step h = λ t q.
+  pub goes-read : (old new : World) (step : Step K) → ((t : Reading) → Reads t old → (u : PlainWorld) (more : Told) → whole t u more ≡ row t u more) → Goes g row old new step → Goes g whole old new step
+  goes-read old new step same h = λ t q.
       let k = h t q in
       let u = plain t old in
-      (k.0, steps-on (g.stands t) t (whole t) (row t) (same t) (whole t u []) step new (subst (λ s. Steps (g.stands t) t (row t) s step new) (sym (same t u [])) k.1))
+      (k.0, steps-on (g.stands t) t (whole t) (row t) (same t k.0) (whole t u []) step new (subst (λ s. Steps (g.stands t) t (row t) s step new) (sym (same t k.0 u [])) k.1))
+
+  pub goes-as : ((t : Reading) (u : PlainWorld) (more : Told) → whole t u more ≡ row t u more) → (old new : World) (step : Step K) → Goes g row old new step → Goes g whole old new step
+  goes-as same old new step h = goes-read old new step (λ t q. same t) h
 
 -- what follows of each step, where there is one
 pub ok-map : {A E : Type 0} (P Q : A → Type 0) (r : Result A E) → ((x : A) → P x → Q x) → IfOk r P → IfOk r Q
