@@ -1,5 +1,5 @@
 -- What the contracts of the rows of comparisons say.
-use Rattle.proto_ops.specs.Below.{Bool, cond, List, [], Result, Raised as Fault, PyObjectRef, PyComparisonOp, CompareTask, Answer, Step, PlainWorld, DoBoolEq, ToCompare, Ended, Row, ask, end, or_else, on_truth, on_value, World, Reading, compare_job, Group, Point, Claim, IsNode}
+use Rattle.proto_ops.specs.Below.{Bool, true, cond, List, [], Result, Raised as Fault, PyObjectRef, PyComparisonOp, CompareTask, Answer, Step, PlainWorld, DoBoolEq, ToCompare, Ended, Row, ask, end, or_else, on_truth, on_value, World, Reading, compare_job, Group, Point, Claim, IsNode}
 use Rattle.std.specs.Prelude.{◌∷◌}
 use Rattle.row_kit.specs.Points as points
 use Rattle.proto_ops.specs.declared.proto_compare.CompareKept.{CompareKept}
