@@ -1,14 +1,13 @@
 -- How the step from a point of a row follows from what is said there.
-use Rattle.row_kit.proofs.Below.{[], Ok, Err, IfOk, ap, append_assoc, ◌∙◌, refl, sym, subst, Result, Raised as Fault, Answer, End, PlainWorld, Said, Ends, World, Reading, EndsAs}
+use Rattle.row_kit.proofs.Below.{[], Ok, Err, IfOk, ◌∙◌, refl, sym, subst, Result, Raised as Fault, Answer, End, PlainWorld, Said, Ends, World, Reading, EndsAs}
 use Rattle.std.proofs.Common.{◌≡◌, ◌++◌, ◌∷◌}
 use Rattle.plain_machine.specs.Plain.{Told, Ended, Asks, Answered, Fact}
 use Rattle.plain_machine.specs.Row.{noting}
-use Rattle.class_world.specs.Rows as rows
 use Rattle.py_node.specs.declared.task.Task.{Task}
 use Rattle.py_node.specs.declared.task.Step.{Step}
 use Rattle.py_node.specs.declared.task.Step.TheVariants.{Ask}
-use Rattle.class_world.specs.Reading.{Reads, ended_of, plain, task_of}
-use Rattle.row_kit.specs.Points.{Begins, Follows, Goes, Group, Point, Resumes, Steps, among, as_points, rest_of}
+use Rattle.class_world.specs.Reading.{Reads, plain, task_of}
+use Rattle.row_kit.specs.Points.{Follows, Goes, Group, Point, Steps, among}
 
 module _ {T K : Type 0} (g : Group T K) (row : Reading → Point) (said : Reading → PlainWorld → Said) (old new : World) where
   -- what is said is what was read
@@ -78,28 +77,4 @@ module _ {T U K A : Type 0} (own : Group T K) (all : Group U A) (for : K → A) 
         k.0,
         steps-on (all.stands t) t (whole t) (row t) (same t) (whole t u []) (among for step) new
             (subst (λ s. Steps (all.stands t) t (row t) s (among for step) new) (sym (same t u [])) (steps-among t (row t) (row t u []) step new k.1)),
-      )
-
--- a group whose rows wait as tasks with what they have learnt
-module _ {T J K : Type 0} (g : rows.Group T J K) where
-  old-steps : (t : Reading) (job : J) (told : Told) (said : Said) (step : Step K) (new : World) → rows.Steps g.say (g.stands t) t job told said step new → Steps ((as_points g).stands t) t (λ u more. g.say u job (told ++ more)) said step new
-  old-steps t job told (Asks w learnt task) (Ask asked kept) new h =
-      (h.0, h.1, λ u r more. ap (g.say u job) (sym (append_assoc told learnt (Answered r ∷ more))) ∙ h.2.says u r more)
-  old-steps t job told (Asks w learnt task) (End r) new h = h
-  old-steps t job told (Ends w r) (Ask asked kept) new h = h
-  old-steps t job told (Ends w r) (End s) new h = h
-
-  pub old-begins : (task : T) (old new : World) (step : Step K) → rows.Begins g task old new step → Begins (as_points g) task old new step
-  old-begins task old new step h = λ t q.
-      let k = h t q in (k.0, old-steps t (g.job t task) [] (g.say (plain t old) (g.job t task) []) step new k.1)
-
-  pub old-resumes : (kept : K) (r : Result Answer Fault) (old new : World) (step : Step K) → rows.Resumes g kept r old new step → Resumes (as_points g) kept r old new step
-  old-resumes kept r old new step h = λ t q.
-      let k = h t q in
-      let p = g.stands t kept in
-      let told = p.told ++ Answered (ended_of r) ∷ [] in
-      let said = g.say (plain t old) p.task told in (
-        k.0,
-        steps-on ((as_points g).stands t) t (rest_of g.say p (ended_of r)) (λ u more. g.say u p.task (told ++ more))
-            (λ u more. ap (g.say u p.task) (sym (append_assoc p.told (Answered (ended_of r) ∷ []) more))) said step new (old-steps t p.task told said step new k.1),
       )

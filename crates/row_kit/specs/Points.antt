@@ -1,13 +1,11 @@
 -- What the contracts of rows say, of any group of rows: a row from some point on, and what is done there.
 use Rattle.row_kit.specs.Below.{[], Result, Raised as Fault, PlainWorld, Ended, Told, Said, Ends, Answered, Row, Reading, Reads, plain, task_of, ended_of}
-use Rattle.plain_machine.specs.Plain.{Asks, Saying}
-use Rattle.plain_machine.specs.Rows.{Pending}
+use Rattle.plain_machine.specs.Plain.{Asks}
 use Rattle.std.specs.Prelude.{◌≡◌, ◌++◌, ◌∷◌}
 use Rattle.py_node.specs.declared.task.Answer.{Answer}
 use Rattle.py_node.specs.declared.task.Step.{Step}
 use Rattle.py_node.specs.declared.task.Step.TheVariants.{Ask, End}
 use Rattle.class_world.specs.declared.world.World.{World}
-use Rattle.class_world.specs.Rows as rows
 
 -- a row from some point on, in whichever world it goes on
 abbrev pub Point : Type 0
@@ -54,11 +52,3 @@ Continues g kept r = Follows g (λ t. g.stands t kept (ended_of r))
 abbrev pub among : {K A : Type 0} → (K → A) → Step K → Step A
 among for (Ask task kept) = Ask task (for kept)
 among for (End r) = End r
-
--- a row that waits as a task with what it has learnt, as a point
-abbrev pub rest_of : {J : Type 0} → Saying J → Pending J → Ended → Point
-rest_of say p r w more = say w p.task (p.told ++ Answered r ∷ more)
-
--- a group whose rows wait so
-abbrev pub as_points : {T J K : Type 0} → rows.Group T J K → Group T K
-as_points g = record { row = λ t task w. g.say w (g.job t task); stands = λ t k. rest_of g.say (g.stands t k) }

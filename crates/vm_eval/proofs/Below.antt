@@ -11,7 +11,6 @@ pub use Rattle.plain_machine.proofs.Follow.{reach-is}
 pub use Rattle.plain_machine.specs.Answer.{NoUnits, Out, Outcome, Over, Run, answer, answering, asked, plain_run, reach, replied, step}
 pub use Rattle.plain_machine.specs.Plain.{Answered, Asks, DoEval, Ended, Ends, PlainTask, PlainWorld, Said, ToAttribute, ToCall, ToClass, ToCompare, ToDescriptor, ToEval, ToObject, ToOperator, ToProtocol, Told}
 pub use Rattle.plain_machine.specs.Row.{fault}
-pub use Rattle.plain_machine.specs.Rows.{Pending}
 unfoldable pub use Rattle.proto_attr.specs.NativeCalls.Say.{asking_job_say}
 unfoldable pub use Rattle.proto_attr.specs.NativeDetails.Say.{detail_job_say}
 pub use Rattle.proto_object.specs.ProtoIter.Rows.{iter_group}
@@ -29,7 +28,7 @@ unfoldable pub use Rattle.vm_eval.specs.OfNatives.Say.{native_job_say}
 pub use Rattle.vm_eval.specs.Runs.{Replied, before, trees_in}
 pub use Rattle.vm_eval.specs.Say.{Begins, Resumes, bodies_in, branch_of, by_branch, of_kept, step_among, to_native, machine_group}
 unfoldable pub use Rattle.vm_eval.specs.Say.{say, stands}
-pub use Rattle.vm_eval.specs.Stack.{Answers, AsDeep, BeginsAt, IsOnItsWay, Reaches, coming, ending_of, finish, unwind, AllWait, Waits, WaitsAt}
+pub use Rattle.vm_eval.specs.Stack.{Answers, AsDeep, Pending, BeginsAt, IsOnItsWay, Reaches, coming, ending_of, finish, unwind, AllWait, Waits, WaitsAt}
 unfoldable pub use Rattle.vm_eval.specs.Stack.{Comes}
 pub use Rattle.vm_eval.specs.declared.natives.NativesKept.{NativesKept}
 pub use Rattle.vm_eval.specs.declared.natives.NativesKept.TheVariants.{ForCalls, ForComparisons, ForDetails, ForParts, ForRepeats}
@@ -38,7 +37,7 @@ pub use Rattle.vm_eval.specs.declared.protocols.Branch.{Branch}
 pub use Rattle.vm_eval.specs.declared.stack.Kept.{Kept}
 pub use Rattle.vm_eval.specs.declared.stack.Kept.TheVariants.{ForAttribute, ForCall, ForClass, ForCompare, ForDescriptor, ForEval, ForItems, ForIteration, ForNative, ForNumber, ForObject, ForOperator}
 pub use Rattle.row_kit.proofs.Points.{ends-follow, goes-among, read-follows, steps-on}
-pub use Rattle.row_kit.specs.Points.{Group, Steps, as_points}
+pub use Rattle.row_kit.specs.Points.{Group, Steps}
 pub use Rattle.proto_call.specs.EvalForms.Rows.{eval_group}
 pub use Rattle.proto_attr.specs.Rows.{attribute_group}
 pub use Rattle.proto_attr.specs.ProtoDescr.Rows.{descriptor_group}

@@ -1,5 +1,5 @@
 -- What a group's row says is what the row says among all.
-use Rattle.vm_eval.proofs.Below.{ap, refl, subst, sym, Result, Raised as Fault, Answer, Step, PlainWorld, PlainTask, ToEval, ToAttribute, ToDescriptor, ToCall, ToClass, ToOperator, ToCompare, ToProtocol, ToObject, Ended, Told, World, Reading, ended_of, eval_job, attribute_job, descriptor_job, call_job, class_job, operator_job, compare_job, object_job, protocol_job, eval_group, attribute_group, descriptor_group, call_group, class_group, operator_group, compare_group, number_group, iter_group, items_group, object_group, natives_group, Kept, ForEval, ForAttribute, ForDescriptor, ForCall, ForClass, ForOperator, ForCompare, ForNumber, ForIteration, ForItems, ForObject, ForNative, Branch, say, stands, machine_group, step_among, by_branch, branch_of, to_native, Resumes, Group, as_points, goes-among}
+use Rattle.vm_eval.proofs.Below.{ap, refl, subst, sym, Result, Raised as Fault, Answer, Step, PlainWorld, PlainTask, ToEval, ToAttribute, ToDescriptor, ToCall, ToClass, ToOperator, ToCompare, ToProtocol, ToObject, Ended, Told, World, Reading, ended_of, eval_job, attribute_job, descriptor_job, call_job, class_job, operator_job, compare_job, object_job, protocol_job, eval_group, attribute_group, descriptor_group, call_group, class_group, operator_group, compare_group, number_group, iter_group, items_group, object_group, natives_group, Kept, ForEval, ForAttribute, ForDescriptor, ForCall, ForClass, ForOperator, ForCompare, ForNumber, ForIteration, ForItems, ForObject, ForNative, Branch, say, stands, machine_group, step_among, by_branch, branch_of, to_native, Resumes, Group, goes-among}
 use Rattle.std.proofs.Common.{◌≡◌}
 use Rattle.py_node.specs.declared.protocol.ProtocolTask.{ProtocolTask}
 use Rattle.row_kit.specs.Points as points
@@ -27,7 +27,7 @@ module _ {T K : Type 0} {g : Group T K} {job : Reading → T → PlainTask} {for
 abbrev pub Any : {T : Type 0} → T → Type 0
 Any task = Unit {0}
 
-pub eval-among : Among (as_points eval_group) (λ t task. ToEval (eval_job t task)) ForEval Any
+pub eval-among : Among eval_group (λ t task. ToEval (eval_job t task)) ForEval Any
 unfolding say stands
 eval-among = record { says = λ t task own u more. refl; keeps = λ t k r u more. refl }
 
@@ -39,11 +39,11 @@ pub descriptor-among : Among descriptor_group (λ t task. ToDescriptor (descript
 unfolding say stands
 descriptor-among = record { says = λ t task own u more. refl; keeps = λ t k r u more. refl }
 
-pub call-among : Among (as_points call_group) (λ t task. ToCall (call_job t task)) ForCall Any
+pub call-among : Among call_group (λ t task. ToCall (call_job t task)) ForCall Any
 unfolding say stands
 call-among = record { says = λ t task own u more. refl; keeps = λ t k r u more. refl }
 
-pub class-among : Among (as_points class_group) (λ t task. ToClass (class_job t task)) ForClass Any
+pub class-among : Among class_group (λ t task. ToClass (class_job t task)) ForClass Any
 unfolding say stands
 class-among = record { says = λ t task own u more. refl; keeps = λ t k r u more. refl }
 

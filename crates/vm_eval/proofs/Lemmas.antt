@@ -10,7 +10,6 @@ pub use Rattle.plain_machine.specs.World.{at_depth}
 unfoldable pub use Rattle.py_node.specs.BuiltIns.{all_built_ins, built_in_flags, flags_of, place_of}
 unfoldable pub use Rattle.py_node.specs.OwnAttrs.{own_attrs}
 pub use Rattle.std.proofs.Common.{List, Some, [], ap, arith, length, refl, subst, sym, ℕ, ◌∙◌}
-pub use Rattle.vm_eval.proofs.Below.{eval_group, call_group, class_group}
 pub use Rattle.vm_eval.proofs.Commands.{command-replied}
 pub use Rattle.vm_eval.proofs.Groups.{attribute-among, begins-among, call-among, class-among, compare-among, descriptor-among, eval-among, items-among, iter-among, native-among, number-among, object-among, operator-among, resumes-among}
 pub use Rattle.row_kit.proofs.Ended.{sorted_ends}
@@ -23,4 +22,3 @@ pub use Rattle.vm_eval.specs.OfNatives.Rows.{native_job, of_natives_kept}
 pub use Rattle.vm_eval.specs.Say.{bodies_in, of_kept, say}
 pub use Rattle.vm_eval.specs.Stack.{ending_of, of_end}
 pub use Rattle.vm_eval.specs.State.{State}
-pub use Rattle.row_kit.proofs.Points.{old-begins, old-resumes}

@@ -4,34 +4,34 @@ use Rattle.std.proofs.Common.{◌≡◌, ◌+◌, ◌<◌, ◌≤◌, ◌∷◌,
 use Rattle.std.specs.Prelude.{Result}
 use Rattle.vm_eval.specs.declared.stack.End.TheVariants as code
 
-unwind-append : (depth : ℕ) (ps : List (Pending PlainTask)) (p : Pending PlainTask) (o : Outcome) → unwind depth (ps ++ p ∷ []) o ≡ unwind depth ps (finish p (depth + length ps) o)
+unwind-append : (depth : ℕ) (ps : List Pending) (p : Pending) (o : Outcome) → unwind depth (ps ++ p ∷ []) o ≡ unwind depth ps (finish p (depth + length ps) o)
 unwind-append depth [] p o = let e : depth ≡ depth + 0 = omega arith in ap (λ n. finish p n o) e
 unwind-append depth (q ∷ ps) p o =
     let e : suc depth + length ps ≡ depth + suc (length ps) = omega arith in
     ap (finish q depth) (unwind-append (suc depth) ps p o ∙ ap (λ n. unwind (suc depth) ps (finish p n o)) e)
 
-unwind-push : (ps : List (Pending PlainTask)) (p : Pending PlainTask) (o : Outcome) → unwind 0 (ps ++ p ∷ []) o ≡ unwind 0 ps (finish p (length ps) o)
+unwind-push : (ps : List Pending) (p : Pending) (o : Outcome) → unwind 0 (ps ++ p ∷ []) o ≡ unwind 0 ps (finish p (length ps) o)
 unwind-push ps p o = unwind-append 0 ps p o ∙ ap (λ n. unwind 0 ps (finish p n o)) (zero-add (length ps))
 
-unwind-no_units : (depth : ℕ) (ps : List (Pending PlainTask)) (w : PlainWorld) (left : ℕ) → unwind depth ps (Out w NoUnits left) ≡ Out w NoUnits left
+unwind-no_units : (depth : ℕ) (ps : List Pending) (w : PlainWorld) (left : ℕ) → unwind depth ps (Out w NoUnits left) ≡ Out w NoUnits left
 unwind-no_units depth [] w left = refl
 unwind-no_units depth (p ∷ ps) w left = ap (finish p depth) (unwind-no_units (suc depth) ps w left)
 
 -- each frame has its row
 
-rows-length : (t : Reading) (stack : List Kept) (ps : List (Pending PlainTask)) → AllWait t stack ps → length ps ≡ length stack
+rows-length : (t : Reading) (stack : List Kept) (ps : List Pending) → AllWait t stack ps → length ps ≡ length stack
 rows-length t [] [] h = refl
 rows-length t (kept ∷ stack) (p ∷ ps) h = ap suc (rows-length t stack ps h.1)
 rows-length t [] (p ∷ ps) h = absurd h
 rows-length t (kept ∷ stack) [] h = absurd h
 
-rows-push : (t : Reading) (stack : List Kept) (ps : List (Pending PlainTask)) (kept : Kept) (p : Pending PlainTask) → AllWait t stack ps → Waits t kept p → AllWait t (stack ++ kept ∷ []) (ps ++ p ∷ [])
+rows-push : (t : Reading) (stack : List Kept) (ps : List Pending) (kept : Kept) (p : Pending) → AllWait t stack ps → Waits t kept p → AllWait t (stack ++ kept ∷ []) (ps ++ p ∷ [])
 rows-push t [] [] kept p h k = (k, tt)
 rows-push t (other ∷ stack) (q ∷ ps) kept p h k = (h.0, rows-push t stack ps kept p h.1 k)
 rows-push t [] (q ∷ ps) kept p h k = absurd h
 rows-push t (other ∷ stack) [] kept p h k = absurd h
 
-rows-pop : (t : Reading) (stack : List Kept) (ps : List (Pending PlainTask)) (kept : Kept) → AllWait t (stack ++ kept ∷ []) ps → (qs : List (Pending PlainTask)) × (q : Pending PlainTask) × (ps ≡ qs ++ q ∷ []) × AllWait t stack qs × Waits t kept q
+rows-pop : (t : Reading) (stack : List Kept) (ps : List Pending) (kept : Kept) → AllWait t (stack ++ kept ∷ []) ps → (qs : List Pending) × (q : Pending) × (ps ≡ qs ++ q ∷ []) × AllWait t stack qs × Waits t kept q
 rows-pop t [] (q ∷ []) kept h = ([], q, refl, tt, h.0)
 rows-pop t [] [] kept h = absurd h
 rows-pop t [] (q ∷ (p ∷ ps)) kept h = absurd h.1
@@ -45,7 +45,7 @@ abbrev learnt_in : Said → Told
 learnt_in (Asks w learnt other) = learnt
 learnt_in (Ends w r) = []
 
-abbrev waiting : PlainTask → Told → Said → Pending PlainTask
+abbrev waiting : PlainTask → Told → Said → Pending
 waiting task told said = record { task = task; told = told ++ learnt_in said }
 
 step-waits : (t : Reading) (task : PlainTask) (told : Told) (said : Said) (next : Step Kept) (new : World) → Steps (stands t) t (λ u more. say u task (told ++ more)) said next new → WaitsAt t next (waiting task told said)
@@ -148,7 +148,7 @@ state-end : (t : Reading) (w : World) (left : ℕ) (r : Result Answer Fault) (o 
 unfolding Comes
 state-end t w left r o comes = sym comes.4 ∙ none comes.0 comes.2
   where
-    none : (ps : List (Pending PlainTask)) → AllWait t [] ps → unwind 0 ps (Out (plain t w) (Over (ended_of r)) left) ≡ Out (plain t w) (Over (ended_of r)) left
+    none : (ps : List Pending) → AllWait t [] ps → unwind 0 ps (Out (plain t w) (Over (ended_of r)) left) ≡ Out (plain t w) (Over (ended_of r)) left
     none [] h = refl
     none (p ∷ ps) h = absurd h
 

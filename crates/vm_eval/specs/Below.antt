@@ -35,7 +35,6 @@ pub use Rattle.plain_machine.specs.Change.{SetBases, apply, without_own_attr}
 pub use Rattle.plain_machine.specs.Known.{the_type}
 pub use Rattle.plain_machine.specs.Plain.{ABuiltinMethod, AClassMethod, AStaticMethod, Answered, Bindings, Datum, DoCollect, DoContains, DoCount, DoEval, DoFind, DoGetIter, DoHint, DoIndex, DoIsTrue, DoLength, DoNext, DoWhole, Ended, Ends, PlainTask, PlainWorld, ProtocolJob, Said, Saying, ToAttribute, ToCall, ToClass, ToCompare, ToDescriptor, ToEval, ToNative, ToObject, ToOperator, ToProtocol, Told}
 pub use Rattle.plain_machine.specs.Row.{Row, elsewhere, end}
-pub use Rattle.plain_machine.specs.Rows.{Pending}
 pub use Rattle.plain_machine.specs.Show.{show}
 pub use Rattle.plain_machine.specs.Sound.{IsSound, read_offset, set_offset}
 pub use Rattle.plain_machine.specs.Start.{start}

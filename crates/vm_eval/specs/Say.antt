@@ -1,7 +1,7 @@
 -- The rows of all groups.
 use Rattle.vm_eval.specs.Below.{ℕ, List, Result, Raised as Fault, Answer, Task, Step, PlainWorld, PlainTask, ProtocolJob, DoIsTrue, DoIndex, DoWhole, DoLength, DoHint, DoGetIter, DoNext, DoCollect, DoContains, DoCount, DoFind, ToEval, ToAttribute, ToDescriptor, ToCall, ToClass, ToOperator, ToCompare, ToProtocol, ToObject, ToNative, Saying, Row, Ended, World, Reading, task_of, Claim, eval_say, eval_stands, of_eval_kept, attribute_say, attribute_stands, of_attribute_kept, descriptor_stands, of_descriptor_kept, call_job_say, call_stands, of_call_kept, bodies_of, class_job_say, class_stands, of_class_kept, descriptor_say, operator_say, operator_stands, of_operator_kept, compare_job_say, compare_stands, of_compare_kept, number_job_say, number_stands, of_number_kept, iter_stands, of_iter_kept, items_stands, of_items_kept, object_stands, of_object_kept, iter_job_say, items_job_say, object_job_say}
 use Rattle.row_kit.specs.Points as points
-use Rattle.row_kit.specs.Points.{Group, Point, among, rest_of}
+use Rattle.row_kit.specs.Points.{Group, Point, among}
 use Rattle.vm_eval.specs.OfNatives.Say.{NativeJob, native_job_say}
 use Rattle.vm_eval.specs.OfNatives.Rows.{natives_stands, of_natives_kept}
 use Rattle.vm_eval.specs.declared.protocols.Branch.{Branch}
@@ -55,11 +55,11 @@ step_among for step = among for step
 
 -- what is done with the answer where something is kept
 unfoldable pub stands : Reading → Kept → Ended → Point
-stands t (ForEval kept) = rest_of eval_say (eval_stands t kept)
+stands t (ForEval kept) = eval_stands t kept
 stands t (ForAttribute kept) = attribute_stands t kept
 stands t (ForDescriptor kept) = descriptor_stands t kept
-stands t (ForCall kept) = rest_of call_job_say (call_stands t kept)
-stands t (ForClass kept) = rest_of class_job_say (class_stands t kept)
+stands t (ForCall kept) = call_stands t kept
+stands t (ForClass kept) = class_stands t kept
 stands t (ForOperator kept) = operator_stands t kept
 stands t (ForCompare kept) = compare_stands t kept
 stands t (ForNumber kept) = number_stands t kept

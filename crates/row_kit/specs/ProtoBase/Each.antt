@@ -1,5 +1,5 @@
 -- Rows that go over items one after another, and what rows do with answers that are no objects.
-use Rattle.row_kit.specs.Below.{ℕ, ℤ, Bool, true, false, cond, nat_le, length, List, [], Result, Ok, Err, PyObjectRef, TooLong, PlainWorld, DoBoolEq, DoNext, PlainTask, ToCompare, ToProtocol, AsValue, AsNumber, AsTruth, AsObjects, AsExhausted, Ended, Answered, Told, Said, Ends, Row, ask, pass, end, value, fault, on_value, on_truth, on_number, most_items}
+use Rattle.row_kit.specs.Below.{ℕ, ℤ, Bool, true, false, cond, nat_le, length, List, [], Result, Ok, Err, PyObjectRef, TooLong, PlainWorld, DoBoolEq, DoNext, PlainTask, ToCompare, ToProtocol, AsValue, AsNumber, AsTruth, AsObjects, AsExhausted, Ended, Answered, Said, Ends, Row, ask, pass, end, fault, on_value, on_truth, on_number, most_items}
 use Rattle.std.specs.Prelude.{◌∷◌, ◌++◌}
 
 -- a truth value, a number or a list of objects, as the answer of a row

@@ -1,10 +1,10 @@
-use Rattle.vm_eval.proofs.Lemmas.{refl, leaves-among, leaves-open, of_eval_kept, of_attribute_kept, of_descriptor_kept, of_call_kept, bodies_of, of_class_kept, of_operator_kept, of_compare_kept, of_object_kept, native_job, of_natives_kept, of_kept, bodies_in, begins-among, eval-among, attribute-among, descriptor-among, call-among, class-among, operator-among, compare-among, object-among, native-among, eval_group, call_group, class_group, old-begins}
+use Rattle.vm_eval.proofs.Lemmas.{refl, leaves-among, leaves-open, of_eval_kept, of_attribute_kept, of_descriptor_kept, of_call_kept, bodies_of, of_class_kept, of_operator_kept, of_compare_kept, of_object_kept, native_job, of_natives_kept, of_kept, bodies_in, begins-among, eval-among, attribute-among, descriptor-among, call-among, class-among, operator-among, compare-among, object-among, native-among}
 use Rattle.vm_eval.proofs.stack.begin.Goals as goal
 
 pub returns-in_ok-step-in-Eval-clause-goes : goal.returns-in_ok-step-in-Eval-clause-goes
 returns-in_ok-step-in-Eval-clause-goes c =
     let step = c.in_ok-step-in-Eval in
-    rw c.in-Eval.is (begins-among eval-among c.in-Eval.task _ _ step.step c.of_eval.result tt c.of_eval.ensures.step (old-begins eval_group c.in-Eval.task _ _ step.step step.ensures.goes))
+    rw c.in-Eval.is (begins-among eval-among c.in-Eval.task _ _ step.step c.of_eval.result tt c.of_eval.ensures.step step.ensures.goes)
 
 pub returns-in_ok-step-in-Attribute-clause-goes : goal.returns-in_ok-step-in-Attribute-clause-goes
 returns-in_ok-step-in-Attribute-clause-goes c =
@@ -19,12 +19,12 @@ returns-in_ok-step-in-Descriptor-clause-goes c =
 pub returns-in_ok-step-in-Call-clause-goes : goal.returns-in_ok-step-in-Call-clause-goes
 returns-in_ok-step-in-Call-clause-goes c =
     let step = c.in_ok-step-in-Call in
-    rw c.in-Call.is (begins-among call-among c.in-Call.task _ _ step.step c.of_call.result tt c.of_call.ensures.step (old-begins call_group c.in-Call.task _ _ step.step step.ensures.goes))
+    rw c.in-Call.is (begins-among call-among c.in-Call.task _ _ step.step c.of_call.result tt c.of_call.ensures.step step.ensures.goes)
 
 pub returns-in_ok-step-in-Class-clause-goes : goal.returns-in_ok-step-in-Class-clause-goes
 returns-in_ok-step-in-Class-clause-goes c =
     let step = c.in_ok-step-in-Class in
-    rw c.in-Class.is (begins-among class-among c.in-Class.task _ _ step.step c.of_class.result tt c.of_class.ensures.step (old-begins class_group c.in-Class.task _ _ step.step step.ensures.goes))
+    rw c.in-Class.is (begins-among class-among c.in-Class.task _ _ step.step c.of_class.result tt c.of_class.ensures.step step.ensures.goes)
 
 pub returns-in_ok-step-in-Operator-clause-goes : goal.returns-in_ok-step-in-Operator-clause-goes
 returns-in_ok-step-in-Operator-clause-goes c =

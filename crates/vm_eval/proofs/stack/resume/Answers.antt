@@ -1,11 +1,11 @@
-use Rattle.vm_eval.proofs.Lemmas.{ap, leaves-among, leaves-open, of_eval_kept, of_attribute_kept, of_descriptor_kept, of_call_kept, bodies_of, of_class_kept, of_operator_kept, of_compare_kept, of_number_kept, of_iter_kept, of_items_kept, of_object_kept, of_natives_kept, of_kept, bodies_in, resumes-among, eval-among, attribute-among, descriptor-among, call-among, class-among, operator-among, compare-among, object-among, native-among, number-among, iter-among, items-among, eval_group, call_group, class_group, old-resumes}
+use Rattle.vm_eval.proofs.Lemmas.{ap, leaves-among, leaves-open, of_eval_kept, of_attribute_kept, of_descriptor_kept, of_call_kept, bodies_of, of_class_kept, of_operator_kept, of_compare_kept, of_number_kept, of_iter_kept, of_items_kept, of_object_kept, of_natives_kept, of_kept, bodies_in, resumes-among, eval-among, attribute-among, descriptor-among, call-among, class-among, operator-among, compare-among, object-among, native-among, number-among, iter-among, items-among}
 use Rattle.vm_eval.specs.declared.protocols.Branch.TheVariants as branch
 use Rattle.vm_eval.proofs.stack.resume.Goals as goal
 
 pub returns-in_ok-step-in-ForEval-clause-goes : goal.returns-in_ok-step-in-ForEval-clause-goes
 returns-in_ok-step-in-ForEval-clause-goes c =
     let step = c.in_ok-step-in-ForEval in
-    resumes-among eval-among c.args.kept c.in-ForEval.kept c.args.answer _ _ step.step c.of_eval.result c.in-ForEval.is c.of_eval.ensures.step (old-resumes eval_group c.in-ForEval.kept c.args.answer _ _ step.step step.ensures.goes)
+    resumes-among eval-among c.args.kept c.in-ForEval.kept c.args.answer _ _ step.step c.of_eval.result c.in-ForEval.is c.of_eval.ensures.step step.ensures.goes
 
 pub returns-in_ok-step-in-ForAttribute-clause-goes : goal.returns-in_ok-step-in-ForAttribute-clause-goes
 returns-in_ok-step-in-ForAttribute-clause-goes c =
@@ -20,12 +20,12 @@ returns-in_ok-step-in-ForDescriptor-clause-goes c =
 pub returns-in_ok-step-in-ForCall-clause-goes : goal.returns-in_ok-step-in-ForCall-clause-goes
 returns-in_ok-step-in-ForCall-clause-goes c =
     let step = c.in_ok-step-in-ForCall in
-    resumes-among call-among c.args.kept c.in-ForCall.kept c.args.answer _ _ step.step c.of_call.result c.in-ForCall.is c.of_call.ensures.step (old-resumes call_group c.in-ForCall.kept c.args.answer _ _ step.step step.ensures.goes)
+    resumes-among call-among c.args.kept c.in-ForCall.kept c.args.answer _ _ step.step c.of_call.result c.in-ForCall.is c.of_call.ensures.step step.ensures.goes
 
 pub returns-in_ok-step-in-ForClass-clause-goes : goal.returns-in_ok-step-in-ForClass-clause-goes
 returns-in_ok-step-in-ForClass-clause-goes c =
     let step = c.in_ok-step-in-ForClass in
-    resumes-among class-among c.args.kept c.in-ForClass.kept c.args.answer _ _ step.step c.of_class.result c.in-ForClass.is c.of_class.ensures.step (old-resumes class_group c.in-ForClass.kept c.args.answer _ _ step.step step.ensures.goes)
+    resumes-among class-among c.args.kept c.in-ForClass.kept c.args.answer _ _ step.step c.of_class.result c.in-ForClass.is c.of_class.ensures.step step.ensures.goes
 
 pub returns-in_ok-step-in-ForOperator-clause-goes : goal.returns-in_ok-step-in-ForOperator-clause-goes
 returns-in_ok-step-in-ForOperator-clause-goes c =
