@@ -1,6 +1,6 @@
 -- Items that are asked in turn.
-use Rattle.native_containers.proofs.Below.{suc, Bool, [], length, get_or, drop, zip, Ok, refl, sym, ap, ◌∙◌, subst, arith, drop_all, drop-cons, CompareNative, CompareTask, Raised as Fault, PyObjectRef, Answer, Value, Step, Ask, End, PlainWorld, ToCompare, ReadObjects, Told, Asks, Ends, none, noting, truth, World, Reading, compare_job, ended_of, plain, ComparedKept, Objects, Pairs, asked, both_read, by_turns, in_turn, turns_of, Compares, TakesTurn, compared_stands, compared_group, asks-follow, ends-follow, goes-as, steps-noting, items_compared, with_items}
-use Rattle.std.proofs.Common.{◌≡◌, ◌+◌, ◌<◌, ◌≤◌, ◌∷◌, ◌++◌}
+use Rattle.native_containers.proofs.Below.{suc, [], length, get_or, drop, zip, Ok, refl, sym, ap, ◌∙◌, subst, arith, drop_all, drop-cons, CompareNative, CompareTask, Raised as Fault, PyObjectRef, Answer, Value, Step, Ask, End, PlainWorld, ToCompare, ReadObjects, Told, Asks, Ends, noting, truth, World, Reading, compare_job, ended_of, plain, ComparedKept, Objects, Pairs, asked, both_read, by_turns, in_turn, turns_of, Compares, TakesTurn, compared_stands, compared_group, asks-follow, ends-follow, goes-as, steps-noting, items_compared}
+use Rattle.std.proofs.Common.{◌≡◌, ◌+◌, ◌<◌, ◌≤◌, ◌∷◌}
 use Rattle.std.specs.Prelude.{Result}
 use Rattle.py_node.specs.declared.task.Task.TheVariants as task
 use Rattle.native_containers.specs.declared.native_compare.way.Turns.TheVariants as turns
@@ -57,13 +57,11 @@ asks-none k w o over is =
 
 -- two lists that were read are compared
 read-goes : (n : CompareNative) (xs ys : Objects) (w : World) (step : Step ComparedKept) → points.Goes compared_group (λ t u. items_compared u n xs ys) w w step → Compares n (λ t u. both_read u n xs ys) w step
-read-goes n xs ys w step h =
-    let whole = λ (t : Reading). λ (u : PlainWorld). with_items (both_read u n xs ys) (items_compared u n) in
-    let second = λ (t : Reading). λ (u : PlainWorld). λ (more : Told). whole t u (ReadObjects xs ∷ more) in
-    λ t q.
-        let k = h t q in
-        (k.0, steps-noting (compared_group.stands t) t (second t) (whole t) (ReadObjects xs) (λ u more. refl) (noting (ReadObjects ys) (items_compared (plain t w) n xs ys [])) step w
-            (steps-noting (compared_group.stands t) t (λ u. items_compared u n xs ys) (second t) (ReadObjects ys) (λ u more. refl) (items_compared (plain t w) n xs ys []) step w k.1))
+read-goes n xs ys w step h = λ row on t q.
+    let k = h t q in
+    let second = λ (u : PlainWorld). λ (more : Told). row t u (ReadObjects xs ∷ more) in
+    (k.0, steps-noting (compared_group.stands t) t second (row t) (ReadObjects xs) (λ u more. refl) (noting (ReadObjects ys) (items_compared (plain t w) n xs ys [])) step w
+        (steps-noting (compared_group.stands t) t (λ u. items_compared u n xs ys) second (ReadObjects ys) (λ u more. on t u xs ys more) (items_compared (plain t w) n xs ys []) step w k.1))
 
 -- in turn
 pub compares-turns : (n : CompareNative) (k : ComparedKept) (w : World) (step : Step ComparedKept) → turns_of n (length k.first.items) (length k.second.items) ≡ turns.Each k.way k.last → k.next ≡ 0 → TakesTurn k w step → Compares n (λ t u. both_read u n k.first.items k.second.items) w step
@@ -73,12 +71,6 @@ compares-turns n k w step is start takes =
     let all : zip xs ys ≡ left k = ap (λ i. zip (drop i xs) (drop i ys)) (sym start) in
     read-goes n xs ys w step (goes-as compared_group (λ t u. in_turn u k.way k.last (left k)) (λ t u. items_compared u n xs ys)
     (λ t u more. ap (λ c. by_turns u c (zip xs ys) more) is ∙ ap (λ ps. in_turn u k.way k.last ps more) all) w w step takes)
-
--- or their lengths tell
-pub compares-told : (n : CompareNative) (xs ys : Objects) (w : World) (b : Bool) (o : PyObjectRef) → turns_of n (length xs) (length ys) ≡ turns.Told b → o ≡ truth b → Compares n (λ t u. both_read u n xs ys) w (End (Ok (Value o)))
-compares-told n xs ys w b o is same =
-    read-goes n xs ys w (End (Ok (Value o))) (ends-follow compared_group (λ t u. items_compared u n xs ys) (λ t u. items_compared u n xs ys []) w w (Ok (Value o))
-    (λ t q. (q, ap (λ c. by_turns (plain t w) c (zip xs ys) []) is ∙ ap (λ c. Ends (plain t w) (ended_of (Ok (Value c)))) (sym same))))
 
 -- an answer after which the comparison goes on
 pub resumes-turn : (k : ComparedKept) (r : Result Answer Fault) (w : World) (step : Step ComparedKept) → ((u : PlainWorld) (more : Told) → answered u k.way k.last (ended_of r) (in_turn u k.way k.last (left k)) more ≡ in_turn u k.way k.last (left k) more) → TakesTurn k w step → Resumes k r w w step

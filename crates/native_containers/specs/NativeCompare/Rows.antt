@@ -1,10 +1,10 @@
 -- What the contracts of comparisons of items say.
-use Rattle.native_containers.specs.Below.{List, [], drop, zip, Result, Raised as Fault, CompareNative, Answer, Task, Step, PlainWorld, Said, World, Reading, task_of, Claim, AreNodes, Ended}
-use Rattle.std.specs.Prelude.{◌∷◌}
+use Rattle.native_containers.specs.Below.{List, [], drop, zip, Result, Raised as Fault, CompareNative, Answer, Task, Step, PlainWorld, Said, ReadObjects, Told, World, Reading, task_of, Claim, AreNodes, Ended}
+use Rattle.std.specs.Prelude.{◌≡◌, ◌∷◌}
 use Rattle.row_kit.specs.Points as points
 use Rattle.row_kit.specs.Points.{Group, Point}
 use Rattle.native_containers.specs.declared.native_compare.ComparedKept.{ComparedKept}
-use Rattle.native_containers.specs.NativeCompare.Containers.{Pairs, answered, in_turn, items_compared, with_items}
+use Rattle.native_containers.specs.NativeCompare.Containers.{Objects, Pairs, answered, in_turn, items_compared}
 use Rattle.native_containers.specs.NativeCompare.Say.{compared_job_say}
 
 -- the items that are left to compare
@@ -33,6 +33,11 @@ Resumes = points.Resumes compared_group
 abbrev pub TakesTurn : ComparedKept → World → Step ComparedKept → Type 0
 TakesTurn k w = points.Goes compared_group (λ t u. in_turn u k.way k.last (left k)) w w
 
--- a row that reads as is said, and compares what it has read
+-- a row compares what it has read
+abbrev pub Comparing : CompareNative → (Reading → Point) → Type 0
+Comparing n row =
+    (t : Reading) (u : PlainWorld) (xs ys : Objects) (more : Told) → row t u (ReadObjects xs ∷ (ReadObjects ys ∷ more)) ≡ items_compared u n xs ys more
+
+-- the step of such a row, whichever it is, which is said to be this
 abbrev pub Compares : CompareNative → (Reading → PlainWorld → Said) → World → Step ComparedKept → Type 0
-Compares n said w = points.Goes compared_group (λ t u. with_items (said t u) (items_compared u n)) w w
+Compares n said w step = (row : Reading → Point) → Comparing n row → points.Follows compared_group row said w w step
