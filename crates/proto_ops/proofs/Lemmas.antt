@@ -9,6 +9,7 @@ pub use Rattle.proto_ops.proofs.NativeNumbers.Pair.{pair-ends}
 pub use Rattle.proto_ops.proofs.NativeNumbers.Shifts.{out_of_range, small_power}
 pub use Rattle.proto_ops.proofs.NativeRepeats.Lists.{repeat-hold, repeat-more, repeat-none}
 pub use Rattle.proto_ops.proofs.NativeRepeats.Said.{text-says, tuple-says}
+pub use Rattle.proto_ops.proofs.NativeRepeats.Steps.{given-caught}
 pub use Rattle.proto_ops.proofs.ProtoCompare.Identity.{others-ask}
 pub use Rattle.proto_ops.proofs.ProtoCompare.Turns.{asks-equal, asks-left, asks-right}
 pub use Rattle.proto_ops.proofs.Times.{inplace-times-asks, times-asks}

@@ -1,2 +1,3 @@
 pub mod Lists
 pub mod Said
+pub mod Steps

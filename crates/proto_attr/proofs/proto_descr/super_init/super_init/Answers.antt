@@ -2,9 +2,9 @@ use Rattle.proto_attr.proofs.Lemmas.{◌∙◌, ap, subst, sym, DoSuperInit, pla
 use Rattle.std.proofs.Common.{◌≡◌}
 use Rattle.proto_attr.proofs.proto_descr.super_init.super_init.Goals as goal
 
-pub returns-in_ok-step-in-Ok-clause-goes : goal.returns-in_ok-step-in-Ok-clause-goes
+pub returns-clause-goes : goal.returns-clause-goes
 unfolding descriptor_say
-returns-in_ok-step-in-Ok-clause-goes c = λ t q.
+returns-clause-goes c = λ t q.
     let a = c.args in
     let u = plain t a.world.now in
     let next = c.in_ok-step-in-Ok.ensures.goes a.args.items t q in
