@@ -77,15 +77,15 @@ state-resume t old new stack kept r left next o h reads comes =
     let says : (u : PlainWorld) (more : Told) → say u q.task (told ++ more) ≡ stands t kept (ended_of r) u more = λ u more. ap (say u q.task) (append_assoc q.told (Answered (ended_of r) ∷ []) more) ∙ k.4 u (ended_of r) more in
     let said = say w q.task told in
     let steps = steps-on (stands t) t (λ u more. say u q.task (told ++ more)) (stands t kept (ended_of r)) says said next new
-        (subst (λ s. Steps (stands t) t (stands t kept (ended_of r)) s next new) (sym (k.4 w (ended_of r) [])) (h t reads).1) in (
+    (subst (λ s. Steps (stands t) t (stands t kept (ended_of r)) s next new) (sym (k.4 w (ended_of r) [])) (h t reads).1) in (
       qs,
       waiting q.task told said,
       k.3,
       step-waits t q.task told said next new steps,
       sym (sym comes.4
-      ∙ ap (λ ps. unwind 0 ps (Out w (Over (ended_of r)) left)) k.2
-      ∙ unwind-push qs q (Out w (Over (ended_of r)) left)
-      ∙ ap (unwind 0 qs) (reach-is say w q.task told left (length qs) ∙ step-coming t q.task told said next new left (length qs) steps)),
+          ∙ ap (λ ps. unwind 0 ps (Out w (Over (ended_of r)) left)) k.2
+          ∙ unwind-push qs q (Out w (Over (ended_of r)) left)
+          ∙ ap (unwind 0 qs) (reach-is say w q.task told left (length qs) ∙ step-coming t q.task told said next new left (length qs) steps)),
     )
 
 -- an asked task begins above the row's frame
@@ -102,9 +102,9 @@ state-asked t old new stack task kept left depth next o e h reads comes =
       rows-push t stack ps kept p comes.2 comes.3,
       b.2,
       unwind-push ps p (coming t next b.1 (plain t new) left (length (ps ++ p ∷ [])))
-      ∙ ap (λ o. unwind 0 ps (finish p (length ps) o)) (sym (b.3 left))
-      ∙ ap (λ d. unwind 0 ps (finish p (length ps) (asked (reach say) (plain t old) (task_of t task) left d))) (sym d)
-      ∙ comes.4,
+          ∙ ap (λ o. unwind 0 ps (finish p (length ps) o)) (sym (b.3 left))
+          ∙ ap (λ d. unwind 0 ps (finish p (length ps) (asked (reach say) (plain t old) (task_of t task) left d))) (sym d)
+          ∙ comes.4,
     )
 
 -- a task begins where a row asked it

@@ -40,28 +40,25 @@ none-second k l = ap (λ ys. zip (drop k.next k.first.items) ys) (drop_all k.nex
 pub asks-two : (k later : ComparedKept) (w : World) (x y : PyObjectRef) (job : CompareTask) → left k ≡ (x, y) ∷ left later → later.way ≡ k.way → later.last ≡ k.last → compare_job job ≡ asked k.way x y → TakesTurn k w (Ask (task.Compare job) later)
 asks-two k later w x y job here way last asks =
     let row = λ (ps : Pairs). λ (t : Reading). λ (u : PlainWorld). in_turn u k.way k.last ps in
-    subst (λ ps. points.Goes compared_group (row ps) w w (Ask (task.Compare job) later)) (sym here) (
-      asks-follow compared_group (row ((x, y) ∷ left later)) (λ t u. row ((x, y) ∷ left later) t u []) w w [] (task.Compare job) later
-          (λ t q. (q, ap (λ job. Asks (plain t w) [] (ToCompare job)) (sym asks)))
-          (λ t u r more.
-          ap (λ m. answered u m k.last r (in_turn u m k.last (left later)) more) (sym way)
-          ∙ ap (λ b. answered u later.way b r (in_turn u later.way b (left later)) more) (sym last)),
-    )
+    let asking = asks-follow compared_group (row ((x, y) ∷ left later)) (λ t u. row ((x, y) ∷ left later) t u []) w w [] (task.Compare job) later (λ t q. (q, ap (λ other. Asks (plain t w) [] (ToCompare other)) (sym asks))) (λ t u r more. ap (λ m. answered u m k.last r (in_turn u m k.last (left later)) more) (sym way) ∙ ap (λ b. answered u later.way b r (in_turn u later.way b (left later)) more) (sym last)) in
+    subst (λ ps. points.Goes compared_group (row ps) w w (Ask (task.Compare job) later)) (sym here) asking
 
 -- none are left
 pub asks-none : (k : ComparedKept) (w : World) (o : PyObjectRef) → left k ≡ [] → o ≡ truth k.last → TakesTurn k w (End (Ok (Value o)))
 asks-none k w o over is =
     let row = λ (ps : Pairs). λ (t : Reading). λ (u : PlainWorld). in_turn u k.way k.last ps in
     subst (λ ps. points.Goes compared_group (row ps) w w (End (Ok (Value o)))) (sym over)
-        (ends-follow compared_group (row []) (λ t u. row [] t u []) w w (Ok (Value o)) (λ t q. (q, ap (λ b. Ends (plain t w) (ended_of (Ok (Value b)))) (sym is))))
+    (ends-follow compared_group (row []) (λ t u. row [] t u []) w w (Ok (Value o)) (λ t q. (q, ap (λ b. Ends (plain t w) (ended_of (Ok (Value b)))) (sym is))))
 
 -- two lists that were read are compared
 read-goes : (n : CompareNative) (xs ys : Objects) (w : World) (step : Step ComparedKept) → points.Goes compared_group (λ t u. items_compared u n xs ys) w w step → Compares n (λ t u. both_read u n xs ys) w step
 read-goes n xs ys w step h = λ row on t q.
     let k = h t q in
-    let second = λ (u : PlainWorld). λ (more : Told). row t u (ReadObjects xs ∷ more) in
-    (k.0, steps-noting (compared_group.stands t) t second (row t) (ReadObjects xs) (λ u more. refl) (noting (ReadObjects ys) (items_compared (plain t w) n xs ys [])) step w
-        (steps-noting (compared_group.stands t) t (λ u. items_compared u n xs ys) second (ReadObjects ys) (λ u more. on t u xs ys more) (items_compared (plain t w) n xs ys []) step w k.1))
+    let second = λ (u : PlainWorld). λ (more : Told). row t u (ReadObjects xs ∷ more) in (
+      k.0,
+      steps-noting (compared_group.stands t) t second (row t) (ReadObjects xs) (λ u more. refl) (noting (ReadObjects ys) (items_compared (plain t w) n xs ys [])) step w
+          (steps-noting (compared_group.stands t) t (λ u. items_compared u n xs ys) second (ReadObjects ys) (λ u more. on t u xs ys more) (items_compared (plain t w) n xs ys []) step w k.1),
+    )
 
 -- in turn
 pub compares-turns : (n : CompareNative) (k : ComparedKept) (w : World) (step : Step ComparedKept) → turns_of n (length k.first.items) (length k.second.items) ≡ turns.Each k.way k.last → k.next ≡ 0 → TakesTurn k w step → Compares n (λ t u. both_read u n k.first.items k.second.items) w step
