@@ -111,9 +111,11 @@ module _ (w : World) (e : ℕ) (f : Form) (es : Vec (PyObjectRef × PyObjectRef)
   key-refused : (v u : PyObjectRef) → ((t : Reading) → is_some (key_at (plain t w) v) ≡ false) → Resumes (OfKey e es v) (Ok (Value u)) w w (End (fault KeyType))
   key-refused v u n =
       let row = λ (t : Reading). eval_stands t (OfKey e es v) (value u) in
-      ends-follow eval_group row (λ t u. row t u []) w w (fault KeyType) (λ t r.
-      (r, row-pair t (answered v ∷ answered u ∷ []) r
-      ∙ ap (λ b. cond b (evaluate_pairs (plain t w) (rest t) (λ fs. make_dict (plain t w) (entries_from (plain t w) (es.items ++ (v, u) ∷ fs)))) (end (plain t w) (fault KeyType)) []) (n t)))
+      ends-follow eval_group row (λ t u. row t u []) w w (fault KeyType) (λ t r. (
+        r,
+        row-pair t (answered v ∷ answered u ∷ []) r
+            ∙ ap (λ b. cond b (evaluate_pairs (plain t w) (rest t) (λ fs. make_dict (plain t w) (entries_from (plain t w) (es.items ++ (v, u) ∷ fs)))) (end (plain t w) (fault KeyType)) []) (n t),
+      ))
 
 -- a dict that waits has the pair that it waits for
 pair-there : (ps : List (ℕ × ℕ)) (n : ℕ) → n < length ps → (p : ℕ × ℕ) × (slice_get ps n ≡ Some p)
@@ -159,11 +161,13 @@ dict-made w new e f es (End s) h n l c k =
     let row = λ (t : Reading). pairs_row (t.tree e) es.items in
     ends-follow eval_group row (λ t u. row t u []) w new s (λ t r.
     let here = k t r in
-    let long = ap (λ o. length (pairs_at o)) h in
-    (here.0, row-past (plain t w) t w e f es.items [] here.0 h (omega (arith, long, l)) (known-read t w es.items c)
-    ∙ ap (λ ps. evaluate_pairs (plain t w) ps (λ fs. make_dict (plain t w) (entries_from (plain t w) (es.items ++ fs))) []) (past-none t.tree (pairs f) (length es.items) n)
-    ∙ ap (λ fs. make_dict (plain t w) (entries_from (plain t w) fs) []) (append-nil es.items)
-    ∙ here.1))
+    let long = ap (λ o. length (pairs_at o)) h in (
+      here.0,
+      row-past (plain t w) t w e f es.items [] here.0 h (omega (arith, long, l)) (known-read t w es.items c)
+          ∙ ap (λ ps. evaluate_pairs (plain t w) ps (λ fs. make_dict (plain t w) (entries_from (plain t w) (es.items ++ fs))) []) (past-none t.tree (pairs f) (length es.items) n)
+          ∙ ap (λ fs. make_dict (plain t w) (entries_from (plain t w) fs) []) (append-nil es.items)
+          ∙ here.1,
+    ))
 
 -- the parts of a pair are expressions
 pub part-holds : (w : Held) (f : Form) (n : ℕ) (p : ℕ × ℕ) → AllHold w (of_form f) → slice_get (pairs f) n ≡ Some p → Holds w (IsExpression p.0) × Holds w (IsExpression p.1)
