@@ -19,6 +19,10 @@ def below(crate):
     return list(known)
 base.below = below
 def nice():
+    try: open("/proc/self/oom_score_adj","w").write("600")
+    except OSError: pass
+    try: os.setsid()
+    except OSError: pass
     try:
         with open("/proc/self/autogroup", "w") as it: it.write(os.environ.get("KIT_NICE", "10"))
     except OSError as e: pass
