@@ -31,7 +31,6 @@ pub use Rattle.plain_machine.specs.Native.{native_task}
 pub use Rattle.plain_machine.specs.Objects.{class_method, class_number, class_object, is_fast, is_for_objects, is_instance, nearest_built_in, object_method, special_at, type_object, with_datum, with_definer}
 pub use Rattle.plain_machine.specs.Plain.{ABuiltinMethod, AClass, AClassMethod, ADict, AFunction, AGetSet, AList, AMember, AMethod, AMethodDescriptor, ANativeFunction, ANumber, AProperty, ASlice, AStaticMethod, ASuper, AText, ATuple, AnIterator, AnObject, AsAttribute, AsDone, AsExhausted, AsFunction, AsMaybe, AsNumber, AsObjects, AsStart, AsTruth, AsValue, Asks, AttributeJob, Bindings, CallJob, ClassJob, CompareJob, Datum, DescriptorJob, DoAbsSub, DoAdd, DoBinOp1, DoBinary, DoBind, DoBody, DoBoolEq, DoCall, DoCmp, DoCollect, DoCompare, DoConcat, DoContains, DoCount, DoDelItem, DoDelSlice, DoDescrGet, DoDescrSet, DoDir, DoEnter, DoEnterPower, DoEval, DoFind, DoFormat, DoGeneric, DoGenericOpt, DoGenericSet, DoGetAttr, DoGetItem, DoGetIter, DoGetSlice, DoHasAttr, DoHash, DoHint, DoIdEq, DoIndex, DoInit, DoInplace, DoInplaceAdd, DoInplaceConcat, DoInplaceMul, DoInplaceOp1, DoInplacePower, DoInplaceRepeat, DoInst, DoInt, DoInvoke, DoIsInstance, DoIsSubclass, DoIsTrue, DoItems, DoKeys, DoLength, DoLoadMethod, DoMakeClass, DoMul, DoNativeRepeat, DoNew, DoNext, DoObject, DoPower, DoRepeat, DoRepr, DoRichBool, DoSeqGt, DoSeqLt, DoSetAttr, DoSetItem, DoSetSlice, DoSpecial, DoStr, DoSub, DoSuperCheck, DoSuperGet, DoSuperInit, DoType, DoTypeCall, DoTypeGet, DoTypeSet, DoUnary, DoValues, DoWhole, Ended, Ends, EvalJob, ObjectJob, OperatorJob, Places, PlainAnswer, PlainTask, PlainWorld, ProtocolJob, Said, Saying, Scope, ToAttribute, ToCall, ToClass, ToCompare, ToDescriptor, ToEval, ToNative, ToObject, ToOperator, ToProtocol, Told}
 pub use Rattle.plain_machine.specs.Row.{most_items, none, truth}
-pub use Rattle.plain_machine.specs.Rows.{Alike, Pending, fresh, given}
 pub use Rattle.plain_machine.specs.Running.{running}
 pub use Rattle.plain_machine.specs.Sound.{AreKeys, IsSound, Key, NumberKey, TextKey, held_by, holds_as, is_offset, key_at, read_offset, set_offset}
 pub use Rattle.plain_machine.specs.Start.{attr_class, is_made, start}

@@ -3,19 +3,19 @@ pub use Rattle.class_world.proofs.Claims.{each-get}
 pub use Rattle.class_world.proofs.DictEntries.{get-below}
 pub use Rattle.class_world.specs.Reading.{Reading, Reads, bindings, compare_job, datum, ended_of, plain, task_of}
 unfoldable pub use Rattle.class_world.specs.Sound.{Holds}
-pub use Rattle.native_containers.specs.Below.{AllHold, Answer, AreNodes, Ask, CompareNative, End, EndsAs, GetItem, Grows, Held, IdEq, IfErr, IsName, IsNode, IsUtf8, IterEnd, Kind, MissingKey, NativeEntry, NewOf, Next, OfIterator, OfList, OfTuple, PyObjectRef, PySlice, PyStrInterned, Raised, SelfType, SequenceIterator, Step, Steps, Task, Text, TooLong, Vec, World, as_said, class_object, datum_at, each_value, encode_utf8, entries_at, in_length, is_of, is_plain, is_some, items_at, keys_of, known_text, max, nat_le, next_node, number_hash, number_of, object_made, of_binding, of_each, of_ended, of_keyed, option_and_then, option_map, ref, slice_get, slice_range, slice_set, text_made, the_int, the_str, value_of, w64, with_datum, with_heir, with_node, with_one, with_own, with_three, with_two}
+pub use Rattle.native_containers.specs.Below.{AllHold, Answer, AreNodes, Ask, CompareNative, End, EndsAs, GetItem, Grows, Held, IdEq, IfErr, IsName, IsNode, IsUtf8, IterEnd, Kind, MissingKey, NativeEntry, NewOf, Next, OfIterator, OfList, OfTuple, PyObjectRef, PySlice, PyStrInterned, Raised, SelfType, SequenceIterator, Step, Task, Text, TooLong, Vec, World, as_said, class_object, datum_at, each_value, encode_utf8, entries_at, in_length, is_of, is_plain, is_some, items_at, keys_of, known_text, max, nat_le, next_node, number_hash, number_of, object_made, of_binding, of_each, of_ended, of_keyed, option_and_then, option_map, ref, slice_get, slice_range, slice_set, text_made, the_int, the_str, value_of, w64, with_datum, with_heir, with_node, with_one, with_own, with_three, with_two}
 pub use Rattle.native_containers.specs.NativeCompare.Containers.{Objects, Pairs, asked, both_read, by_turns, in_turn, items_compared, turns_of, values_under, with_items}
-pub use Rattle.native_containers.specs.NativeCompare.Rows.{Begins, Compares, Comparing, StepsAt, TakesTurn, Turning, compared_stands, even, firsts, seconds}
+pub use Rattle.native_containers.specs.NativeCompare.Rows.{Begins, Compares, TakesTurn, compared_group, compared_stands}
 pub use Rattle.native_containers.specs.NativeCompare.Say.{compare_native_say}
 unfoldable pub use Rattle.native_containers.specs.NativeCompare.Say.{compared_job_say}
 pub use Rattle.native_containers.specs.NativeItems.Items.{del_asked, del_item, del_rest, extend, extend_rest, get_item, index_asked, is_among, is_number, item_asked, item_got, look_for, placed, set_asked, set_item, set_rest, stood}
 pub use Rattle.native_containers.specs.NativeItems.Iterators.{found_in, item_found, moved_past, next_in, next_place, with_place}
 pub use Rattle.native_containers.specs.NativeItems.Places.{place_at, put_between, slice_at}
-pub use Rattle.native_containers.specs.NativeItems.Rows.{Does, Enters, getter_of, item_stands, items_stood, made_as, next_asked, of_found, searcher_of, stood_told}
+pub use Rattle.native_containers.specs.NativeItems.Rows.{Does, Enters, getter_of, item_group, item_stands, items_stood, made_as, next_asked, of_found, searcher_of, stood_told}
 unfoldable pub use Rattle.native_containers.specs.NativeItems.Say.{item_job_say}
 pub use Rattle.native_containers.specs.NativeParts.Makers.{asks_for, str_made, with_one_at_most}
 pub use Rattle.native_containers.specs.NativeParts.Numbers.{int_made_of, int_of_class}
-pub use Rattle.native_containers.specs.NativeParts.Rows.{IsNoNumber, IsNoObject, Resumes, Starts, Takes, TakesAt, answered, left, left_to_hash, parts_stands, repr_of, repr_of_wrapper}
+pub use Rattle.native_containers.specs.NativeParts.Rows.{Goes, IsNoNumber, IsNoObject, Resumes, Starts, left, left_to_hash, parts_group, parts_stands, repr_of, repr_of_wrapper}
 unfoldable pub use Rattle.native_containers.specs.NativeParts.Say.{parts_job_say}
 pub use Rattle.native_containers.specs.NativeParts.Texts.{before, closing, container_text, flattened, hash_row, kind_of, opening, parts_at, parts_in, repr_task, text_at, text_ends, text_row, texts_at, texts_from, wrapped_in, wrapper_by, wrapper_ends, wrapper_text}
 pub use Rattle.native_containers.specs.NativeTexts.Texts.{hashed_on, mark, repr_text, stands_in}
@@ -39,8 +39,7 @@ pub use Rattle.native_containers.specs.declared.native_parts.wrapped.Wrapper.{Wr
 pub use Rattle.native_containers.specs.declared.native_parts.wrapped.Wrapper.TheVariants.{Class, Static}
 pub use Rattle.plain_machine.specs.Dicts.{Entries, has_place, is_like, put_under, with_entries, with_entry, with_value_for, with_value_in, without_value_for}
 pub use Rattle.plain_machine.specs.Plain.{AList, ANumber, AText, ATuple, Answered, AsObjects, AsTruth, Asks, Bindings, Datum, DoCollect, DoIdEq, DoIndex, DoIsTrue, DoSpecial, DoStr, DoWhole, Ended, Ends, PlainTask, PlainWorld, ReadObjects, Said, ToAttribute, ToCompare, ToNative, ToObject, ToProtocol, Told}
-pub use Rattle.plain_machine.specs.Row.{Row, end, fault, most_items, none, noting, on_number, on_value, pass, read_objects, truth, value}
-pub use Rattle.plain_machine.specs.Rows.{Alike, Pending, fresh}
+pub use Rattle.plain_machine.specs.Row.{Row, end, fault, most_items, none, noting, on_number, on_value, pass, read_objects, truth, value, on_truth}
 pub use Rattle.py_node.specs.Faults.{raised}
 pub use Rattle.py_node.specs.declared.built_in.BuiltIn.{BuiltIn}
 pub use Rattle.py_node.specs.declared.memory.OutOfMemory.{OutOfMemory}
@@ -48,6 +47,8 @@ pub use Rattle.py_node.specs.declared.payload.Payload.{Payload}
 pub use Rattle.py_node.specs.declared.protocol.CompareTask.{CompareTask}
 pub use Rattle.py_node.specs.declared.refs.PyTypeRef.{PyTypeRef}
 pub use Rattle.py_node.specs.declared.task.Answer.TheVariants.{Method, Number, Truth, Value}
+pub use Rattle.row_kit.proofs.Points.{asks-follow, ends-follow, goes-as, goes-noting, ok-map, read-follows, steps-noting}
+pub use Rattle.row_kit.specs.Points.{Point}
 pub use Rattle.row_kit.proofs.ContainersEnds.{Saying, then-ends}
 pub use Rattle.row_kit.proofs.ContainersLoops.{next}
 pub use Rattle.std.proofs.Common.{Bool, Err, IfOk, List, None, Ok, Option, Result, Some, [], add-one, ap, append-nil, append_assoc, ap₂, arith, cond, drop, eqb, false, fold, get_or, inl, inr, length, length-append, map, nat_lt, pos, refl, string_bytes, subst, suc, sym, take, take_all, tests, true, zero, zip, ℕ, ℤ, ◌∙◌}

@@ -20,7 +20,7 @@ pub use Rattle.native_containers.proofs.NativeItems.Iterating.{character-next, i
 pub use Rattle.native_containers.proofs.NativeItems.Natives.{getter-is, searcher-is}
 pub use Rattle.native_containers.proofs.NativeItems.Ranges.{both-nodes, found-holds, put-nodes, range-nodes, set-nodes, without-nodes}
 pub use Rattle.native_containers.proofs.NativeItems.Searches.{search-begins, search-goes}
-pub use Rattle.native_containers.proofs.NativeItems.Standing.{del-asked, deleting-alike, deleting-on, extend-asked, extending-alike, extending-on, get-asked, getting-alike, getting-on, set-asked, set-part-asked, setting-alike, setting-on}
+pub use Rattle.native_containers.proofs.NativeItems.Standing.{del-asked, deleting-alike, extend-asked, extending-alike, get-asked, getting-alike, set-asked, set-part-asked, setting-alike}
 pub use Rattle.native_containers.proofs.NativeItems.Steps.{asks-does, ends-does, ends-resumes, one-enters, refused-enters, same-does-ok, three-enters, two-enters}
 pub use Rattle.native_containers.proofs.NativeParts.Asking.{drop-got, drop-none, text-asks, text-finish, text-more, text-other, text-refused, text-starts}
 pub use Rattle.native_containers.proofs.NativeParts.Contents.{flat-nodes, no-parts}

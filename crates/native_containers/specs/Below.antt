@@ -3,15 +3,14 @@ pub use Rattle.class_world.specs.Claims.{Leaves, of_answer, of_args, of_ended, o
 pub use Rattle.class_world.specs.Held.{Held}
 pub use Rattle.class_world.specs.Keyed.{of_entries, of_keyed}
 pub use Rattle.class_world.specs.Reading.{Reading, Reads, bindings, compare_job, ended_of, plain, task_of}
-pub use Rattle.class_world.specs.Rows.{EndsAs, Follows, Goes, Group, LeavesEnd, Steps}
+pub use Rattle.class_world.specs.Rows.{EndsAs, LeavesEnd}
 pub use Rattle.class_world.specs.Sound.{AllHold, AreNodes, CanBeKeys, Claim, Grows, Holding, Holds, IsClass, IsName, IsNode, IsOf, of_binding, of_each, of_node_ref, of_option}
 pub use Rattle.class_world.specs.declared.world.World.{World}
 pub use Rattle.plain_machine.specs.Dicts.{Entries, has_place, is_like, with_entries, with_entry, with_value_in, without_value_for}
 pub use Rattle.plain_machine.specs.Known.{the_int, the_list, the_str}
 pub use Rattle.plain_machine.specs.Objects.{class_object, with_datum}
 pub use Rattle.plain_machine.specs.Plain.{AClassMethod, ADict, AList, ANumber, ASlice, AStaticMethod, AText, ATuple, AnIterator, Answered, AsObjects, AsValue, Asks, Bindings, CompareJob, Datum, DoCollect, DoHash, DoIdEq, DoIndex, DoIsTrue, DoRepr, DoSeqGt, DoSeqLt, DoSpecial, DoStr, DoWhole, Ended, Ends, Fact, PlainTask, PlainWorld, ReadObjects, Said, ToAttribute, ToCompare, ToNative, ToObject, ToProtocol, Told}
-pub use Rattle.plain_machine.specs.Row.{Row, ask, elsewhere, end, fault, most_items, none, not_implemented, on_maybe, on_truth, on_value, pass, read_objects, start, truth, value}
-pub use Rattle.plain_machine.specs.Rows.{Pending, fresh}
+pub use Rattle.plain_machine.specs.Row.{Row, ask, elsewhere, end, fault, most_items, none, on_number, not_implemented, on_maybe, on_truth, on_value, pass, read_objects, start, truth, value}
 pub use Rattle.plain_machine.specs.Sound.{key_at}
 pub use Rattle.plain_machine.specs.Takes.{with_one, with_text, with_three, with_two, without_keywords}
 pub use Rattle.plain_machine.specs.World.{class_at, datum_at, next_node, number_of, ref, with_node}

@@ -22,7 +22,6 @@ pub use Rattle.plain_machine.specs.Known.{the_dict}
 pub use Rattle.plain_machine.specs.Objects.{class_number, nearest_built_in}
 pub use Rattle.plain_machine.specs.Plain.{ABuiltinMethod, AClass, AClassMethod, ADict, AFunction, AGetSet, AList, AMember, AMethod, AMethodDescriptor, ANativeFunction, ANumber, AProperty, ASlice, AStaticMethod, ASuper, AText, ATuple, AnIterator, AnObject, Answered, Asks, Bindings, Chose, Datum, Ended, Ends, Node, PlainTask, PlainWorld, Read, ReadNames, ReadObjects, Said, Saying, Scope, Told, no_members}
 pub use Rattle.plain_machine.specs.Row.{Row, ask, choose, fault, read_names, read_objects, read_once}
-pub use Rattle.plain_machine.specs.Rows.{Alike, Pending}
 pub use Rattle.plain_machine.specs.Sound.{AreApart, AreBound, AreKeys, AreOffsets, AreThere, IsSound, IsSoundNode, IsSoundScope, Key, classes_in, held_by, holds_as, home, is_below, is_offset, key_at, key_of, keys_in, nodes_in, offsets_in, params_in}
 unfoldable pub use Rattle.plain_machine.specs.Start.{start, with_attr}
 pub use Rattle.plain_machine.specs.World.{bound, bound_last, datum_at, has_dict, is_text, node_at, push_node, ref, text_keys, with_binding, with_node_changed}

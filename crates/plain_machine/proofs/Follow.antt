@@ -1,5 +1,5 @@
--- The laws of `reach` that need no bound on the units: it follows what the row says, and rows that go on alike come out alike.
-use Rattle.plain_machine.proofs.Below.{ℕ, zero, suc, [], refl, sym, ap, ◌∙◌, arith, append_assoc, true, false, cond, DepthLimit, PlainWorld, PlainTask, Ended, Answered, Told, Said, Asks, Ends, Saying, fault, Over, NoUnits, Outcome, Out, Follow, carry, asked, step, follow, reach, Pending, Alike}
+-- The rule of `reach` that needs no bound on the units: it follows what the row says.
+use Rattle.plain_machine.proofs.Below.{ℕ, zero, suc, [], refl, sym, ap, ◌∙◌, arith, true, false, cond, DepthLimit, PlainWorld, PlainTask, Ended, Answered, Told, Said, Asks, Ends, Saying, fault, Over, NoUnits, Outcome, Out, Follow, carry, asked, step, follow, reach}
 use Rattle.std.proofs.Common.{◌≡◌, ◌<◌, ◌≤◌, ◌∷◌, ◌++◌, nat_lt}
 
 abbrev units_of : Outcome → ℕ
@@ -74,38 +74,3 @@ module _ (say : Saying PlainTask) where
   unfolding reach follow
   reach-is w task told left depth =
       step-agrees (follow say left) (reach say) left (follow-spends left) (reach-agrees left) task told depth (say w task told) left (omega arith)
-
-  -- rows that go on alike come to the same, in the same world
-  record Likes (f : Follow) : Type 0 where
-    likes : (p q : Pending PlainTask) → Alike say p q → (w : PlainWorld) (r : Ended) (more : Told) (left depth : ℕ) → f w p.task (p.told ++ Answered r ∷ more) left depth ≡ f w q.task (q.told ++ Answered r ∷ more) left depth
-
-  regroup : (told : Told) (r s : Ended) (more learnt : Told) → ((told ++ Answered r ∷ more) ++ learnt) ++ Answered s ∷ [] ≡ told ++ Answered r ∷ ((more ++ learnt) ++ Answered s ∷ [])
-  regroup told r s more learnt = simp append_assoc
-
-  carry-like : (f g : PlainWorld → Ended → ℕ → Outcome) (o : Outcome) → ((w : PlainWorld) (r : Ended) (left : ℕ) → f w r left ≡ g w r left) → carry f o ≡ carry g o
-  carry-like f g (Out w (Over r) left) k = k w r left
-  carry-like f g (Out w NoUnits left) k = refl
-
-  step-likes : (f : Follow) → Likes f → (p q : Pending PlainTask) → Alike say p q → (r : Ended) (more : Told) (depth : ℕ) (said : Said) (left : ℕ) → step f p.task (p.told ++ Answered r ∷ more) depth said left ≡ step f q.task (q.told ++ Answered r ∷ more) depth said left
-  step-likes f l p q a r more depth (Ends w s) left = refl
-  step-likes f l p q a r more depth (Asks w learnt other) zero = refl
-  step-likes f l p q a r more depth (Asks w learnt other) (suc left) =
-      carry-like _ _ (asked f w other left (suc depth)) (λ w s left.
-      ap (λ told. f w p.task told left depth) (regroup p.told r s more learnt)
-      ∙ l.likes p q a w r ((more ++ learnt) ++ Answered s ∷ []) left depth
-      ∙ ap (λ told. f w q.task told left depth) (sym (regroup q.told r s more learnt)))
-
-  follow-likes : (n : ℕ) → Likes (follow say n)
-  unfolding follow
-  follow-likes zero = record { likes = λ p q a w r more left depth. refl }
-  follow-likes (suc n) =
-      record {
-        likes = λ p q a w r more left depth.
-            step-likes (follow say n) (follow-likes n) p q a r more depth (say w p.task (p.told ++ Answered r ∷ more)) left
-            ∙ ap (λ said. step (follow say n) q.task (q.told ++ Answered r ∷ more) depth said left) (a.says w r more);
-      }
-
-  -- two rows that go on alike come to the same, whatever their answer
-  pub reach-alike : (p q : Pending PlainTask) → Alike say p q → (w : PlainWorld) (r : Ended) (left depth : ℕ) → reach say w p.task (p.told ++ Answered r ∷ []) left depth ≡ reach say w q.task (q.told ++ Answered r ∷ []) left depth
-  unfolding reach
-  reach-alike p q a w r left depth = (follow-likes (suc left)).likes p q a w r [] left depth

@@ -8,7 +8,6 @@ pub mod Show
 pub mod ClassText
 pub mod Row
 pub mod Answer
-pub mod Rows
 pub mod Start
 pub mod Objects
 pub mod Change

@@ -6,7 +6,7 @@ pub use Rattle.class_world.proofs.Items.{item_holds}
 pub use Rattle.class_world.proofs.KeyEntries.{entries-themselves, keys-can}
 pub use Rattle.class_world.specs.Sound.{AllHold, AreNames, AreNodes, IsClass, IsName, IsNode, of_binding, of_each, of_name_ref, of_option, of_optional, of_property, of_start}
 pub use Rattle.plain_machine.specs.Dicts.{entries_from}
-pub use Rattle.proto_attr.proofs.Below.{Binds, Steps, Wraps, along, class_at, is_class, lin, lin-classes, line-seen, with_one_or_two}
+pub use Rattle.proto_attr.proofs.Below.{Binds, Steps, Wraps, along, class_at, ended_of, ends-follow, is_class, lin, lin-classes, line-seen, with_one_or_two}
 unfoldable pub use Rattle.proto_attr.proofs.Below.{Holds, descriptor_say}
 pub use Rattle.proto_attr.proofs.NativeCalls.Lists.{after-two-hold, get-one, get-two, rest-hold, rest-is, rest-nodes, without-more}
 pub use Rattle.proto_attr.proofs.NativeCalls.Steps.{class-does, doc-does, does-begins, does-begins-ok, ended-does, ends-does, super-does, super-resumes, taken-descriptor, taken-steps, told-resumes}
@@ -21,12 +21,12 @@ pub use Rattle.proto_attr.proofs.NativeObjects.Owned.{attrs-there, heap-annotati
 pub use Rattle.proto_attr.proofs.NativeObjects.Parts.{keyword-holds, name-holds, parts-hold, placed-hold, set-holds}
 pub use Rattle.proto_attr.proofs.NativeObjects.Setting.{one-given, refused, set-of-classes, two-given}
 pub use Rattle.proto_attr.proofs.Nodes.{first-node}
-pub use Rattle.proto_attr.proofs.OrGetAttr.{get-attr-passed, get-attr-said, told}
+pub use Rattle.proto_attr.proofs.OrGetAttr.{get-attr-said}
 pub use Rattle.proto_attr.proofs.ProtoDescr.Lines.{line-classes}
 pub use Rattle.proto_attr.proofs.ProtoDescr.Names.{name_holds}
 pub use Rattle.proto_attr.proofs.ProtoDescr.Steps.{closed-begins, closes-starts, passed-resumes, passed-starts, told-row}
 pub use Rattle.proto_attr.proofs.Winning.{answer-given, class-last, data-wins, dict-next, neither-has}
-pub use Rattle.proto_attr.specs.Below.{ADict, ASuper, ATuple, Ask, Asks, DoBinary, DoGetAttr, DoSuperInit, End, Ends, Get, GetterOf, MethodDescriptor, Or, PlainWorld, PyObjectRef, PyProperty, PySlice, PySuper, ReadObjects, Reading, Said, SetOwn, ToAttribute, ToOperator, base, bindings, datum, datum_at, fault, in_length, is_text, keyed, known_text, numbers, object_made, of_task, option_and_then, option_map, plain, ref, sized_made, special_at, spelled, spelled_option, string_bytes, text_made, the_dict, the_object, the_tuple, truth, with_heir, with_node, with_one, with_own_attr, with_two}
+pub use Rattle.proto_attr.specs.Below.{ADict, ASuper, ATuple, Answered, Ask, Asks, DoBinary, DoGetAttr, DoSuperInit, End, Ends, Get, GetterOf, MethodDescriptor, Or, PlainWorld, PyObjectRef, PyProperty, PySlice, PySuper, ReadObjects, Reading, Said, SetOwn, ToAttribute, ToOperator, base, bindings, datum, datum_at, done, end, fault, in_length, is_text, keyed, known_text, numbers, object_made, of_task, on_done, on_value, option_and_then, option_map, plain, ref, sized_made, special_at, spelled, spelled_option, string_bytes, text_made, the_dict, the_object, the_tuple, truth, with_heir, with_node, with_one, with_own_attr, with_two}
 pub use Rattle.proto_attr.specs.NativeCalls.Asks.{Does}
 pub use Rattle.proto_attr.specs.NativeCalls.Say.{by_way, class_method_by_name, class_of_wrapper, doc_asked, function_get_by_name, getset_get_by_name, member_get_by_name, native_get_by_name, property_get_by_name, super_get_by_name, wrapper_new}
 pub use Rattle.proto_attr.specs.NativeDetails.Say.{abstract_by, listed, name_known}

@@ -10,7 +10,7 @@ pub use Rattle.class_table.specs.Refused.{NamesNoClass, refusal, refused_attr}
 pub use Rattle.class_world.specs.Claims.{Leaves, of_answer, of_args, of_attribute_task, of_descriptor_task, of_ended, of_setter, of_step, of_task}
 pub use Rattle.class_world.specs.Held.{Held}
 pub use Rattle.class_world.specs.Reading.{Reading, Reads, answer_of, attribute_job, bindings, datum, descriptor_job, ended_of, plain, setter_value, spelled, spelled_option, task_of}
-pub use Rattle.class_world.specs.Rows.{EndsAs, Follows, Group, LeavesEnd}
+pub use Rattle.class_world.specs.Rows.{EndsAs, LeavesEnd}
 pub use Rattle.class_world.specs.Sound.{AllHold, AreNodes, Claim, Grows, Holding, Holds, IsClass, IsName, IsNode, IsOf, IsOffset, class_in, flags_at, home_of, of_binding, of_class_ref, of_each, of_member, of_name_ref, of_node_ref, of_option, of_optional, of_payload, of_property, of_start}
 pub use Rattle.class_world.specs.declared.world.World.{World}
 pub use Rattle.plain_machine.specs.Change.{Change, SetBases, SetClass, SetDict, SetName, SetOwn, apply, without_own_attr}
@@ -22,7 +22,6 @@ pub use Rattle.plain_machine.specs.Native.{native_task}
 pub use Rattle.plain_machine.specs.Objects.{class_number, class_object, derives, for_classes, for_objects, is_fast, is_instance, special_at, type_object, with_datum}
 pub use Rattle.plain_machine.specs.Plain.{ABuiltinMethod, AClassMethod, ADict, AFunction, AGetSet, AList, AMember, AMethod, AMethodDescriptor, ANativeFunction, AProperty, ASlice, AStaticMethod, ASuper, AText, ATuple, Answered, AsAttribute, AsFunction, AsMaybe, AsStart, AsTruth, AsValue, Asks, AttributeJob, Bindings, Chose, Datum, DescriptorJob, DoBinary, DoBind, DoCall, DoDescrGet, DoDescrSet, DoGeneric, DoGenericOpt, DoGenericSet, DoGetAttr, DoHasAttr, DoInvoke, DoLoadMethod, DoNew, DoSetAttr, DoSpecial, DoSuperCheck, DoSuperGet, DoSuperInit, DoTypeGet, DoTypeSet, Ended, Ends, Made, PlainTask, PlainWorld, ReadObjects, Said, ToAttribute, ToCall, ToDescriptor, ToNative, ToOperator, Told}
 pub use Rattle.plain_machine.specs.Row.{Row, ask, build, done, elsewhere, end, fault, fork, is_attribute_error, none, on_done, on_value, pass, read_objects, start, truth, value}
-pub use Rattle.plain_machine.specs.Rows.{Pending, fresh}
 pub use Rattle.plain_machine.specs.Running.{running}
 pub use Rattle.plain_machine.specs.Sound.{holds_as, read_offset, set_offset}
 pub use Rattle.plain_machine.specs.Takes.{named_end, with_one, with_text, with_three, with_two, without_keywords}
@@ -71,6 +70,7 @@ pub use Rattle.py_node.specs.declared.task.PyNumberBinaryOp.TheVariants.{Or}
 pub use Rattle.py_node.specs.declared.task.Step.{Step}
 pub use Rattle.py_node.specs.declared.task.Step.TheVariants.{Ask, End}
 pub use Rattle.py_node.specs.declared.task.Task.{Task}
+pub use Rattle.row_kit.specs.Points.{Follows, Group, Point}
 pub use Rattle.row_kit.specs.Asking.{argument, tested_first, with_read}
 pub use Rattle.row_kit.specs.Called.{call_native}
 pub use Rattle.row_kit.specs.ClassAttributes.{keyed}

@@ -1,21 +1,22 @@
 -- What the contracts of the rows of attributes say.
-use Rattle.proto_attr.specs.Below.{List, [], Result, None, Raised as Fault, Answer, AttributeTask, Step, PlainWorld, AttributeJob, DoGetAttr, DoGenericOpt, DoLoadMethod, DoHasAttr, DoSpecial, DoBind, Chose, Said, Pending, ref, World, Reading, attribute_job, bindings, spelled, Group, Claim, IsNode, IsName, of_args}
+use Rattle.proto_attr.specs.Below.{List, [], Result, Some, Raised as Fault, Answer, AttributeTask, Step, PlainWorld, Said, Ended, end, on_value, World, Reading, attribute_job, bindings, spelled, Claim, IsNode, IsName, of_args}
 use Rattle.std.specs.Prelude.{◌∷◌}
-use Rattle.class_world.specs.Rows as rows
+use Rattle.row_kit.specs.Points as points
+use Rattle.row_kit.specs.Points.{Group, Point}
 use Rattle.proto_attr.specs.declared.AttributeKept.{AttributeKept}
 use Rattle.proto_attr.specs.declared.AttributeKept.TheVariants.{Pass, AfterBind, GetAttr, HasAttr, Maybe, Method}
 use Rattle.proto_attr.specs.declared.find.Found.{Found}
 use Rattle.proto_attr.specs.declared.find.Found.TheVariants.{Descriptor, Value, Missing}
-use Rattle.proto_attr.specs.Say.{attribute_say}
+use Rattle.proto_attr.specs.Say.{attribute_say, as_attribute, get_rest, maybe, not_none, special_rest}
 
--- the row that goes on, at each answer, just as the row that the code keeps this for
-abbrev pub attribute_stands : Reading → AttributeKept → Pending AttributeJob
-attribute_stands t Pass = record { task = DoBind (record { 0 = 0 }) None (record { 0 = 0 }); told = [] }
-attribute_stands t (GetAttr o x) = record { task = DoGetAttr o (spelled t x); told = Chose 1 ∷ [] }
-attribute_stands t HasAttr = record { task = DoHasAttr (ref 0) []; told = [] }
-attribute_stands t Maybe = record { task = DoGenericOpt (ref 0) [] None; told = [] }
-attribute_stands t Method = record { task = DoLoadMethod (ref 0) []; told = [] }
-attribute_stands t (AfterBind args kw) = record { task = DoSpecial (record { 0 = 0 }) [] args.items (bindings t kw.items); told = Chose 1 ∷ [] }
+-- what is done with the answer where this is kept
+abbrev pub attribute_stands : Reading → AttributeKept → Ended → Point
+attribute_stands t Pass r w = end w r
+attribute_stands t (GetAttr o x) r w = get_rest w o (spelled t x) 1 r
+attribute_stands t HasAttr r w = on_value w r (λ v. end w (not_none v))
+attribute_stands t Maybe r w = on_value w r (λ v. end w (maybe (Some v)))
+attribute_stands t Method r w = on_value w r (λ v. end w (as_attribute v))
+attribute_stands t (AfterBind args kw) r w = special_rest w args.items (bindings t kw.items) 1 r
 
 -- what is said of what is kept
 abbrev pub of_attribute_kept : AttributeKept → List Claim
@@ -32,16 +33,16 @@ of_found (Descriptor a) = IsNode a ∷ []
 of_found (Value v) = IsNode v ∷ []
 of_found Missing = []
 
--- the group: its jobs, what they say, what goes on, and what is claimed of that
-abbrev pub attribute_group : Group AttributeTask AttributeJob AttributeKept
-attribute_group = record { job = attribute_job; say = attribute_say; stands = attribute_stands; claims = of_attribute_kept }
+-- the group: the row of a task, and what is done with an answer
+abbrev pub attribute_group : Group AttributeTask AttributeKept
+attribute_group = record { row = λ t task w. attribute_say w (attribute_job t task); stands = attribute_stands }
 
 abbrev pub Begins : AttributeTask → World → World → Step AttributeKept → Type 0
-Begins = rows.Begins attribute_group
+Begins = points.Begins attribute_group
 
 abbrev pub Resumes : AttributeKept → Result Answer Fault → World → World → Step AttributeKept → Type 0
-Resumes = rows.Resumes attribute_group
+Resumes = points.Resumes attribute_group
 
 -- the first step of a task, which is said to be this
 abbrev pub Starts : AttributeTask → (Reading → PlainWorld → Said) → World → World → Step AttributeKept → Type 0
-Starts = rows.Starts attribute_group
+Starts = points.Starts attribute_group

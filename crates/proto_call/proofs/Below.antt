@@ -24,20 +24,20 @@ pub use Rattle.class_world.specs.Sound.{AllHold, AreExpressions, AreFilled, AreN
 unfoldable pub use Rattle.class_world.specs.Sound.{Holds}
 pub use Rattle.plain_machine.proofs.Offsets.{members-append}
 pub use Rattle.plain_machine.proofs.Pushed.{holder}
-pub use Rattle.plain_machine.specs.Plain.{AClass, AClassMethod, ADict, AGetSet, AText, ATuple, Answered, Asks, Bindings, CallJob, Chose, Datum, DoBind, DoBody, DoCall, DoEval, DoGetAttr, DoIndex, DoIsTrue, DoMakeClass, DoNew, DoObject, DoType, Ended, Ends, EvalJob, Node, PlainTask, PlainWorld, ReadNames, ReadObjects, Said, ToAttribute, ToCall, ToEval, ToProtocol, Told, no_members}
+pub use Rattle.plain_machine.specs.Plain.{AClass, AClassMethod, ADict, AGetSet, AText, ATuple, Answered, Asks, Bindings, Chose, Datum, DoBind, DoBody, DoCall, DoEval, DoGetAttr, DoIndex, DoIsTrue, DoMakeClass, DoNew, DoObject, DoType, Ends, Node, PlainTask, PlainWorld, ReadNames, ReadObjects, Said, ToAttribute, ToCall, ToEval, ToProtocol, Told, no_members}
 pub use Rattle.plain_machine.specs.Sound.{IsSound, TextKey, key_at, key_of}
 pub use Rattle.plain_machine.specs.World.{class_at, datum_at, has_dict, is_text, next_node, push_node, ref, text_keys, with_new_class, with_node, with_own_attr}
-pub use Rattle.proto_call.specs.Below.{Answer, ArgCount, Ask, Cause, End, EndsAs, Follows, Form, Function, Getter, Goes, Held, KeyType, Kind, Leaves, Ne, New, NullInName, ObjectNative, OutOfMemory, Pending, PyObjectRef, PyStrInterned, Raised, Row, SetNameCalled, Setter, Step, Steps, TooLong, TypeArgs, TypeNative, TypeType, Word, World, ask, class_number, end, entries_from, entry, evaluate, fault, filled, fresh, has_null, heap_class, is_not_implemented, known_text, most_items, natives_of, none, noting, numbers, of_pairs, on_truth, on_value, option_or, pass, raised, refused_layout, refused_order, slot_members, special_at, start, the_class_method, the_dict, the_function, the_getset, the_object, the_str, the_tuple, truth, two_of, type_object, value, with_definer}
+pub use Rattle.proto_call.specs.Below.{Answer, ArgCount, Ask, Cause, End, EndsAs, Follows, Form, Function, Getter, Held, KeyType, Kind, Leaves, Ne, New, NullInName, ObjectNative, OutOfMemory, PyObjectRef, PyStrInterned, Raised, Row, SetNameCalled, Setter, Step, TooLong, TypeArgs, TypeNative, TypeType, Word, World, ask, class_number, end, entries_from, entry, evaluate, fault, filled, has_null, heap_class, is_not_implemented, known_text, most_items, natives_of, none, noting, numbers, of_pairs, on_truth, on_value, option_or, pass, raised, refused_layout, refused_order, slot_members, special_at, start, the_class_method, the_dict, the_function, the_getset, the_object, the_str, the_tuple, truth, two_of, type_object, value, with_definer}
 pub use Rattle.proto_call.specs.Bodies.{Enters, LastFilled, RunsAs, by_keywords_of, by_place_of, datum_of, last_in, opened_of}
-pub use Rattle.proto_call.specs.ClassMake.Rows.{Bound, Makes, Types, bound_told, class_stands, hooks_told, left, of_class_kept, of_class_node}
+pub use Rattle.proto_call.specs.ClassMake.Rows.{Bound, Makes, Types, class_stands, left, of_class_kept, of_class_node, class_group}
 pub use Rattle.proto_call.specs.ClassMake.Say.{Entries, Space, a_member, attrs_in, bind_hook, bind_hooks, by_bases, by_classes, by_one, by_parts, by_slots, by_winner, call_hooks, called_with, classes_of, defined, derived, dict_of, from_three, functions_of, has_name, init_subclass, namespace, namespace_from, new_class, on_bases, on_layout, or_zero, own_values, places_from, refusal, tell, text_of, texts_of, the_member, there, three_of, tuple_of, type_by, type_call, type_new, type_new_of, unless_raised, values_of, winner, with_class, with_functions, with_member, with_members, with_namespace, with_own_members, would_have_dict}
 unfoldable pub use Rattle.proto_call.specs.ClassMake.Say.{class_job_say, completed, dicted, give, give_dict, made_unless, put, put_member, qualify, unhash, whole_class, wrap, wrap_value}
 pub use Rattle.proto_call.specs.EvalForms.ClassForm.{ArePairs, AreSpelled}
-pub use Rattle.proto_call.specs.EvalForms.Rows.{Continues, EndsRow, EndsSo, GoesOn, HasValues, IsOther, IsOwn, Resumes, StepsAt, Takes, TakesAt, answered, args_of, arguments, arguments_at, called_task, called_told, called_tree, eval_stands, evaluated_tree, has_argument, has_operand, has_pair, keywords_of, named, of_eval_kept, operands, operands_at, pairs, pairs_at, pairs_of, pairs_told, positional}
-pub use Rattle.proto_call.specs.EvalForms.Say.{Pairs, attr_say, call_with, called_say, class_by, class_say, class_within, del_attr_say, entry_names, evaluate_pairs, func_say, given_metaclass, given_say, if_say, keyed, last_or_none, list_say, make_dict, metaclass, on_keywords, operand_trees, other_keywords, own_say, raise_say, seq_say, set_attr_say, tuple_say, unrepeated, with_dict}
+pub use Rattle.proto_call.specs.EvalForms.Rows.{Continues, EndsRow, HasValues, IsOther, IsOwn, Resumes, answered, args_of, arguments, arguments_at, called_task, eval_stands, evaluated_tree, has_argument, has_operand, has_pair, keywords_of, named, of_eval_kept, operands, operands_at, pairs, pairs_at, pairs_of, pairs_told, positional, Goes, arguments_row, eval_group, operands_row, pairs_row}
+pub use Rattle.proto_call.specs.EvalForms.Say.{Pairs, attr_say, call_with, called_say, class_by, class_say, class_within, del_attr_say, entry_names, evaluate_pairs, func_say, given_metaclass, given_say, if_say, keyed, last_or_none, list_say, make_dict, metaclass, on_keywords, operand_trees, other_keywords, own_say, raise_say, seq_say, set_attr_say, tuple_say, unrepeated, with_dict, arguments_say, dict_say, invoke_say, on_method}
 unfoldable pub use Rattle.proto_call.specs.EvalForms.Say.{eval_say}
-pub use Rattle.proto_call.specs.EvalForms.Words.{asked, counted_by, made, one_of, op_say, part_start, part_stop, with_index}
-pub use Rattle.proto_call.specs.Rows.{Begins, Closes, Does, call_stands}
+pub use Rattle.proto_call.specs.EvalForms.Words.{asked, made, one_of, op_say, with_index}
+pub use Rattle.proto_call.specs.Rows.{Begins, Closes, Does, call_stands, call_group}
 pub use Rattle.proto_call.specs.Say.{all_filled, body_by, but_last, by_keywords, by_place, is_empty, is_member, last_of, left_over, rest_fits, shown, single, value_at, value_text, when_filled, with_keywords}
 unfoldable pub use Rattle.proto_call.specs.Say.{call_job_say}
 pub use Rattle.proto_call.specs.declared.CallKept.{CallKept}
@@ -45,8 +45,7 @@ pub use Rattle.proto_call.specs.declared.class_make.ClassKept.{ClassKept}
 pub use Rattle.proto_call.specs.declared.class_make.ClassKept.TheVariants.{Binding, Calling}
 pub use Rattle.proto_call.specs.declared.class_make.tell.Telling.{Telling}
 pub use Rattle.proto_call.specs.declared.eval_forms.EvalKept.{EvalKept}
-pub use Rattle.proto_call.specs.declared.eval_forms.EvalKept.TheVariants.{Arguments, Count, Key, Made, Operands, Pass, Stop}
-pub use Rattle.proto_call.specs.declared.eval_forms.bounds.Counted.{Counted}
+pub use Rattle.proto_call.specs.declared.eval_forms.EvalKept.TheVariants.{Arguments, Key, Made, Operands, Pass, Stop, Load}
 pub use Rattle.proto_call.specs.declared.eval_forms.bounds.Part.{Part}
 pub use Rattle.proto_call.specs.declared.eval_forms.call_form.Called.{Called}
 pub use Rattle.proto_call.specs.declared.eval_forms.outcome.Outcome.{Outcome}
@@ -66,3 +65,6 @@ pub use Rattle.std.specs.List.{All, AllByRecursion, find, list_all, list_any}
 unfoldable pub use Rattle.std.specs.List.{IsDistinct}
 pub use Rattle.std.specs.Map.{keys_of}
 pub use Rattle.std.specs.Prelude.{IfOk, IfSome, IsTrue, Result, is_some, nat_le, nat_lt, option_and_then, option_map, slice_get}
+pub use Rattle.py_node.specs.declared.task.PyMethod.{PyMethod}
+pub use Rattle.row_kit.proofs.Points.{asks-follow, ends-follow, goes-as, goes-read, read-follows, steps-noting}
+pub use Rattle.row_kit.specs.Points.{Point, Steps}

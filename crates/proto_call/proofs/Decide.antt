@@ -1,7 +1,7 @@
 -- What was read stands in what is decided.
-use Rattle.proto_call.proofs.Below.{ℕ, zero, suc, List, [], length, get_or, Ok, Err, refl, sym, subst, arith, Raised as Fault, Answer, End, PyObjectRef, ObjectNative, Step, OutOfMemory, PlainWorld, CallJob, DoObject, Said, Pending, fresh, World, Held, Reading, Reads, plain, EndsAs, Steps, Follows, IsNode, AreNodes, Holds, CallKept, call_job_say, call_stands, Closes, Does}
-use Rattle.std.proofs.Common.{◌≡◌, ◌<◌, ◌∷◌, ◌++◌, Result, IfOk}
-use Rattle.proto_call.specs.Below.{TypeNative, Bindings, Answered, ended_of, named_end}
+use Rattle.proto_call.proofs.Below.{List, [], Ok, Err, refl, sym, subst, Raised as Fault, Answer, End, PyObjectRef, ObjectNative, Step, OutOfMemory, PlainWorld, DoObject, Said, World, Reading, Reads, plain, EndsAs, Steps, Follows, Point, CallKept, call_job_say, call_group, call_stands, Closes, Does, ends-follow}
+use Rattle.std.proofs.Common.{◌≡◌, Result, IfOk}
+use Rattle.proto_call.specs.Below.{TypeNative, Bindings, ended_of, named_end}
 use Rattle.proto_call.specs.Say.{object_by}
 use Rattle.proto_call.specs.ObjectNatives.{object_native_say}
 use Rattle.proto_call.specs.ClassMake.Say.{type_by}
@@ -12,30 +12,32 @@ use Rattle.py_node.specs.declared.entry.ObjectNative.TheVariants as object
 use Rattle.py_node.specs.declared.entry.TypeNative.TheVariants as type
 
 -- a decision by the value that was read is one by what the plain world has
-pub by-read : {A : Type 0} (p : Reading → Pending CallJob) (F : Reading → PlainWorld → A → Said) (read : Reading → PlainWorld → A) (value : A) (old new : World) (step : Step CallKept) → ((t : Reading) → Reads t old → read t (plain t old) ≡ value) → Follows call_job_say call_stands p (λ t u. F t u value) old new step → Follows call_job_say call_stands p (λ t u. F t u (read t u)) old new step
-by-read p F read value old new step r f = λ t q.
+pub by-read : {A : Type 0} (row : Reading → Point) (F : Reading → PlainWorld → A → Said) (read : Reading → PlainWorld → A) (value : A) (old new : World) (step : Step CallKept) → ((t : Reading) → Reads t old → read t (plain t old) ≡ value) → Follows call_group row (λ t u. F t u value) old new step → Follows call_group row (λ t u. F t u (read t u)) old new step
+by-read row F read value old new step r f = λ t q.
     let h = f t q in
-    (h.0, subst (λ a. Steps call_job_say (call_stands t) t (p t).task (p t).told (F t (plain t old) a) step new) (sym (r t h.0)) h.1)
+    (h.0, subst (λ a. Steps (call_stands t) t (row t) (F t (plain t old) a) step new) (sym (r t h.0)) h.1)
 
 -- a decision in a world that stands for the same plain world
-pub from-same : (p : Reading → Pending CallJob) (F : Reading → PlainWorld → Said) (old mid new : World) (step : Step CallKept) → ((t : Reading) → plain t mid ≡ plain t old) → ((t : Reading) → Reads t mid → Reads t old) → Follows call_job_say call_stands p F mid new step → Follows call_job_say call_stands p F old new step
-from-same p F old mid new step same reads f = λ t q.
+pub from-same : (row : Reading → Point) (F : Reading → PlainWorld → Said) (old mid new : World) (step : Step CallKept) → ((t : Reading) → plain t mid ≡ plain t old) → ((t : Reading) → Reads t mid → Reads t old) → Follows call_group row F mid new step → Follows call_group row F old new step
+from-same row F old mid new step same reads f = λ t q.
     let h = f t q in
-    (reads t h.0, subst (λ u. Steps call_job_say (call_stands t) t (p t).task (p t).told (F t u) step new) (same t) h.1)
+    (reads t h.0, subst (λ u. Steps (call_stands t) t (row t) (F t u) step new) (same t) h.1)
+
+-- the row of such a native
+abbrev of_native : ObjectNative → List PyObjectRef → (Reading → Bindings) → Reading → Point
+of_native n args kw = λ t u. call_job_say u (DoObject n args (kw t))
 
 -- what a native of `object` does that ends so
 pub does-after : (n : ObjectNative) (F : Reading → PlainWorld → Said) (old mid new : World) (r : Result (Step CallKept) OutOfMemory) → ((t : Reading) → Reads t mid → Reads t old) → ((t : Reading) → plain t mid ≡ plain t old) → IfOk r (λ step. Closes F mid new step) → IfOk r (λ step. Does n F old new step)
-does-after n F old mid new (Ok step) reads same h = λ args kw. from-same (λ t. fresh (DoObject n args (kw t))) F old mid new step same reads (h (λ t. fresh (DoObject n args (kw t))))
+does-after n F old mid new (Ok step) reads same h = λ args kw. from-same (of_native n args kw) F old mid new step same reads (h (of_native n args kw))
 does-after n F old mid new (Err e) reads same h = tt
 
 pub does : (n : ObjectNative) (F : Reading → PlainWorld → Said) (old new : World) (step : Step CallKept) → Closes F old new step → Does n F old new step
-does n F old new step h = λ args kw. h (λ t. fresh (DoObject n args (kw t)))
+does n F old new step h = λ args kw. h (of_native n args kw)
 
 -- what a native of `object` does that asks no task
 pub ends-does : (n : ObjectNative) (F : Reading → PlainWorld → Said) (old new : World) (r : Result Answer Fault) → EndsAs F old new r → Does n F old new (End r)
-ends-does n F old new r h = λ args kw t q.
-    let k = h t q in
-    (k.0, subst (λ s. Steps call_job_say (call_stands t) t (DoObject n args (kw t)) [] s (End r) new) (sym k.1) (refl, refl))
+ends-does n F old new r h = λ args kw. ends-follow call_group (of_native n args kw) F old new r h
 
 -- what such a native says
 pub object-ends : (u : PlainWorld) (n : ObjectNative) (args : List PyObjectRef) (kw : Bindings) → (n ≡ object.New → ⊥) → (n ≡ object.Init → ⊥) → (n ≡ object.InitSubclass → ⊥) → (n ≡ object.GetAttribute → ⊥) → (n ≡ object.SetAttr → ⊥) → (n ≡ object.DelAttr → ⊥) → (n ≡ object.Str → ⊥) → (n ≡ object.Format → ⊥) → (n ≡ object.Dir → ⊥) → (n ≡ object.Ne → ⊥) → object_by u n args kw ≡ object_native_say u n args kw
@@ -77,8 +79,4 @@ type-ends u type.SubclassHook args kw a b c d e = refl
 
 -- what was answered, told as an object
 pub told-resumes : (r : Result Answer Fault) (old new : World) (s : Result Answer Fault) → EndsAs (λ t u. named_end u (ended_of r) []) old new s → Resumes Named r old new (End s)
-unfolding call_job_say
-told-resumes r old new s h = λ t q.
-    let e = h t q in
-    let p = call_stands t Named in
-    (e.0, subst (λ said. Steps call_job_say (call_stands t) t p.task (p.told ++ Answered (ended_of r) ∷ []) said (End s) new) (sym e.1) (refl, refl))
+told-resumes r old new s h = ends-follow call_group (λ t. call_stands t Named (ended_of r)) (λ t u. named_end u (ended_of r) []) old new s h

@@ -8,7 +8,7 @@ use Rattle.py_node.specs.declared.task.CallTask.TheVariants as call
 pub enters-by : (said other : Reading → PlainWorld → Said) (old mid new : World) (step : Step CallKept) → ((t : Reading) → Reads t mid → Reads t old) → ((t : Reading) → Reads t mid → said t (plain t mid) ≡ other t (plain t old)) → Enters said mid new step → Enters other old new step
 enters-by said other old mid new step reads same h = λ f args kw t r.
     let k = h f args kw t r in
-    (reads t k.0, subst (λ s. Steps call_job_say (call_stands t) t (DoBody f args (kw t)) [] s step new) (same t k.0) k.1)
+    (reads t k.0, subst (λ s. Steps (call_stands t) t (λ u. call_job_say u (DoBody f args (kw t))) s step new) (same t k.0) k.1)
 
 -- every parameter has a value
 pub filled-opens : (t : Reading) (u : PlainWorld) (g : Function) (f : PyObjectRef) (before vars kw : List (PyStrInterned × PyObjectRef)) (xs : List PyStrInterned) → map (spelled t) xs ≡ single g.rest (map (spelled t) g.params.items) → Some (bindings t vars) ≡ with_keywords (map (spelled t) xs) (bindings t before) (bindings t kw) → all_filled (bindings t vars) (map (spelled t) xs) ≡ true → opened_of g f vars t u ≡ by_keywords_of g f before kw t u
@@ -55,7 +55,7 @@ pub body-begins : (old new : World) (f : PyObjectRef) (args : Vec PyObjectRef) (
 unfolding call_job_say
 body-begins old new f args kw o step runs h = λ t r.
     let k = h f args.items (λ t. bindings t kw.items) t r in
-    (k.0, subst (λ s. Steps call_job_say (call_stands t) t (DoBody f args.items (bindings t kw.items)) [] s step new) (sym (runs t (plain t old) f args.items (bindings t kw.items))) k.1)
+    (k.0, subst (λ s. Steps (call_stands t) t (λ u. call_job_say u (DoBody f args.items (bindings t kw.items))) s step new) (sym (runs t (plain t old) f args.items (bindings t kw.items))) k.1)
 
 pub last-read : (f : PyStrInterned → Text) (xs : List PyStrInterned) (n : ℕ) (x : PyStrInterned) → suc n ≡ length xs → x ≡ get_or xs n x → f x ≡ last_of (map f xs)
 last-read f [] n x l e = absurd (omega arith)

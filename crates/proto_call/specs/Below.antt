@@ -12,8 +12,8 @@ pub use Rattle.class_world.specs.Claims.{Leaves, LeavesOpen, left_open, of_args,
 pub use Rattle.class_world.specs.Held.{Held}
 pub use Rattle.class_world.specs.Keyed.{of_entries, of_keyed, of_pairs}
 pub use Rattle.class_world.specs.NewHeap.{of_slots, qualified, refused_name, slot_texts}
-pub use Rattle.class_world.specs.Reading.{Reading, Reads, bindings, call_job, class_job, datum, ended_of, eval_job, function_datum, method_func, method_of, method_target, plain, spelled, task_of}
-pub use Rattle.class_world.specs.Rows.{EndsAs, Follows, Goes, Group, LeavesEnd, Steps}
+pub use Rattle.class_world.specs.Reading.{Reading, Reads, bindings, call_job, class_job, datum, ended_of, eval_job, function_datum, method_func, method_target, plain, spelled, task_of}
+pub use Rattle.class_world.specs.Rows.{EndsAs, LeavesEnd}
 pub use Rattle.class_world.specs.Sound.{AllHold, AreNames, AreNodes, Claim, Grows, HasForm, HasParams, HasValues, Holding, Holds, IsClass, IsExpression, IsName, IsNode, IsOf, IsOffset, class_in, has_value, home_of, of_binding, of_class_ref, of_each, of_function, of_node_ref, of_option, of_payload}
 pub use Rattle.class_world.specs.declared.world.World.{World}
 pub use Rattle.plain_machine.specs.Args.{filled, two_of}
@@ -22,9 +22,8 @@ pub use Rattle.plain_machine.specs.Dicts.{entries_from}
 pub use Rattle.plain_machine.specs.Known.{the_class_method, the_dict, the_function, the_getset, the_int, the_list, the_object, the_str, the_tuple, the_type}
 pub use Rattle.plain_machine.specs.Native.{native_task}
 pub use Rattle.plain_machine.specs.Objects.{class_number, class_object, is_instance, nearest_built_in, special_at, type_object, with_definer}
-pub use Rattle.plain_machine.specs.Plain.{AClassMethod, ADict, AFunction, AGetSet, AList, AMember, ANumber, AProperty, AStaticMethod, AText, ATuple, AnObject, Answered, AsAttribute, AsExhausted, AsFunction, AsObjects, AsValue, Asks, Bindings, CallJob, Chose, ClassJob, Datum, DoAdd, DoBinary, DoBind, DoBody, DoCall, DoCmp, DoCollect, DoCompare, DoConcat, DoContains, DoCount, DoDelItem, DoDelSlice, DoDir, DoEval, DoFind, DoFormat, DoGeneric, DoGenericSet, DoGetAttr, DoGetItem, DoGetIter, DoGetSlice, DoHasAttr, DoHash, DoHint, DoIndex, DoInit, DoInplace, DoInplaceAdd, DoInplaceConcat, DoInplaceMul, DoInplacePower, DoInplaceRepeat, DoInvoke, DoIsInstance, DoIsSubclass, DoIsTrue, DoItems, DoKeys, DoLength, DoLoadMethod, DoMakeClass, DoMul, DoNew, DoNext, DoObject, DoPower, DoRepeat, DoRepr, DoSetAttr, DoSetItem, DoSetSlice, DoSpecial, DoStr, DoType, DoTypeCall, DoTypeGet, DoTypeSet, DoUnary, DoValues, DoWhole, Ended, Ends, EvalJob, Fact, Made, PlainTask, PlainWorld, ReadNames, ReadObjects, Said, ToAttribute, ToCall, ToClass, ToCompare, ToEval, ToObject, ToOperator, ToProtocol, Told}
+pub use Rattle.plain_machine.specs.Plain.{AClassMethod, ADict, AFunction, AGetSet, AList, AMember, ANumber, AProperty, AStaticMethod, AText, ATuple, AnObject, Answered, AsAttribute, AsExhausted, AsFunction, AsObjects, AsValue, Asks, Bindings, CallJob, Chose, ClassJob, Datum, DoAdd, DoBinary, DoBind, DoBody, DoCall, DoCmp, DoCollect, DoCompare, DoConcat, DoContains, DoCount, DoDelItem, DoDelSlice, DoDir, DoEval, DoFind, DoFormat, DoGeneric, DoGenericSet, DoGetAttr, DoGetItem, DoGetIter, DoGetSlice, DoHasAttr, DoHash, DoHint, DoIndex, DoInit, DoInplace, DoInplaceAdd, DoInplaceConcat, DoInplaceMul, DoInplacePower, DoInplaceRepeat, DoInvoke, DoIsInstance, DoIsSubclass, DoIsTrue, DoItems, DoKeys, DoLength, DoLoadMethod, DoMakeClass, DoMul, DoNew, DoNext, DoObject, DoPower, DoRepeat, DoRepr, DoSetAttr, DoSetItem, DoSetSlice, DoSpecial, DoStr, DoType, DoTypeCall, DoTypeGet, DoTypeSet, DoUnary, DoValues, DoWhole, Ended, Ends, EvalJob, Fact, Made, PlainTask, PlainWorld, Said, ToAttribute, ToCall, ToClass, ToCompare, ToEval, ToObject, ToOperator, ToProtocol, Told}
 pub use Rattle.plain_machine.specs.Row.{Row, ask, done, elsewhere, end, evaluate, fault, fits_index, fork, is_attribute_error, is_not_implemented, limited, make, most_items, none, not_implemented, noting, on_done, on_number, on_truth, on_value, pass, read_names, read_objects, start, truth, value}
-pub use Rattle.plain_machine.specs.Rows.{Pending, fresh}
 pub use Rattle.plain_machine.specs.Show.{show}
 pub use Rattle.plain_machine.specs.Sound.{key_at}
 pub use Rattle.plain_machine.specs.Takes.{named_end, native_end, with_one, with_text, with_three, with_two}
@@ -34,7 +33,7 @@ pub use Rattle.py_node.specs.BuiltIns.{place_of}
 pub use Rattle.py_node.specs.Faults.{raised}
 pub use Rattle.py_node.specs.Known.{known_text}
 pub use Rattle.py_node.specs.Replies.{Started, started_of}
-pub use Rattle.py_node.specs.Tree.{Entries, KeyedTrees, LFalse, LInt, LNone, LText, LTrue, Literal, TAttr, TBind, TCall, TClass, TConst, TDelAttr, TDict, TFunc, TIf, TList, TName, TOp, TRaise, TSeq, TSetAttr, TTuple, Text, Tree, Trees, entry_trees, list_of, literal_of, no_entries, no_keyed, no_trees, tree}
+pub use Rattle.py_node.specs.Tree.{Entries, KeyedTrees, LFalse, LInt, LNone, LText, LTrue, Literal, TAttr, TBind, TCall, TClass, TConst, TDelAttr, TDict, TFunc, TIf, TList, TName, TOp, TRaise, TSeq, TSetAttr, TTuple, Text, Tree, Trees, entry_trees, list_of, literal_of, no_entries, no_keyed, no_trees}
 pub use Rattle.py_node.specs.declared.built_in.BuiltIn.{BuiltIn}
 pub use Rattle.py_node.specs.declared.built_in.BuiltIn.TheVariants.{TypeType}
 pub use Rattle.py_node.specs.declared.entry.NativeEntry.TheVariants.{Getter, Setter}
@@ -47,7 +46,6 @@ pub use Rattle.py_node.specs.declared.entry.TypeNative.{TypeNative}
 pub use Rattle.py_node.specs.declared.expr.ObjectWord.{ObjectWord}
 pub use Rattle.py_node.specs.declared.expr.SequenceWord.{SequenceWord}
 pub use Rattle.py_node.specs.declared.expr.Word.{Word}
-pub use Rattle.py_node.specs.declared.expr.Word.TheVariants.{Binary, Object, Sequence}
 pub use Rattle.py_node.specs.declared.known.Known.TheVariants.{Metaclass}
 pub use Rattle.py_node.specs.declared.memory.OutOfMemory.{OutOfMemory}
 pub use Rattle.py_node.specs.declared.payload.Form.{Form}
@@ -66,9 +64,9 @@ pub use Rattle.py_node.specs.declared.task.ClassTask.{ClassTask}
 pub use Rattle.py_node.specs.declared.task.EvalTask.{EvalTask}
 pub use Rattle.py_node.specs.declared.task.PyComparisonOp.TheVariants.{Eq}
 pub use Rattle.py_node.specs.declared.task.PyNumberBinaryOp.{PyNumberBinaryOp}
-pub use Rattle.py_node.specs.declared.task.PyNumberBinaryOp.TheVariants.{Add}
 pub use Rattle.py_node.specs.declared.task.Step.{Step}
 pub use Rattle.py_node.specs.declared.task.Step.TheVariants.{Ask, End}
+pub use Rattle.row_kit.specs.Points.{Follows, Group, Point}
 pub use Rattle.row_kit.specs.Called.{call_native}
 pub use Rattle.row_kit.specs.ClassAttributes.{keyed, or_no_attributes}
 pub use Rattle.row_kit.specs.ClassNames.{in_module, module_of, or_nothing, qualname}

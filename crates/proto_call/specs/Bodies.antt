@@ -1,14 +1,14 @@
 -- What the contracts of the row of a body say: its words, for a function of the code.
-use Rattle.proto_call.specs.Below.{true, List, [], Option, Some, None, IfSome, IsTrue, map, PyObjectRef, PyStrInterned, Function, Step, Datum, PlainWorld, Bindings, DoBody, Said, fresh, World, Reading, spelled, function_datum, bindings, Follows, has_value}
+use Rattle.proto_call.specs.Below.{true, List, [], Option, Some, None, IfSome, IsTrue, map, PyObjectRef, PyStrInterned, Function, Step, Datum, PlainWorld, Bindings, DoBody, Said, World, Reading, spelled, function_datum, bindings, Follows, has_value}
 use Rattle.std.specs.Prelude.{◌≡◌, ◌∷◌}
 use Rattle.proto_call.specs.declared.CallKept.{CallKept}
 use Rattle.proto_call.specs.Say.{call_job_say, opened, by_keywords, by_place, body_by}
-use Rattle.proto_call.specs.Rows.{call_stands}
+use Rattle.proto_call.specs.Rows.{call_group}
 
 -- the row of a body, whichever it is, begins with what is decided so
 abbrev pub Enters : (Reading → PlainWorld → Said) → World → World → Step CallKept → Type 0
 Enters said old new step =
-    (f : PyObjectRef) (args : List PyObjectRef) (kw : Reading → Bindings) → Follows call_job_say call_stands (λ t. fresh (DoBody f args (kw t))) said old new step
+    (f : PyObjectRef) (args : List PyObjectRef) (kw : Reading → Bindings) → Follows call_group (λ t u. call_job_say u (DoBody f args (kw t))) said old new step
 
 abbrev pub datum_of : Reading → Option Function → Option Datum
 datum_of t None = None

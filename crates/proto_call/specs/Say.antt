@@ -1,5 +1,5 @@
 -- What the rows of calls say.
-use Rattle.proto_call.specs.Below.{ℕ, zero, suc, Bool, true, false, cond, not, eqb, List, [], Option, Some, None, is_some, is_none, length, map, nat_le, Ok, PyObjectRef, AbstractMethods, ArgCount, CannotCreate, FormatSpec, InitNotNone, NoSpecial, NotCallable, SelfType, TooLong, UnexpectedKeyword, UnsafeNew, Call, Init, New, SlotEntry, Native, Wrapper, ObjectNative, Eq, value_of, with_value, Text, Tree, Started, known_text, found, slot, natives_of, Datum, AnObject, AFunction, ATuple, AList, PlainWorld, Bindings, DoEval, CallJob, DoCall, DoBody, DoTypeCall, DoNew, DoInit, DoObject, DoGeneric, DoGenericSet, DoSpecial, DoCmp, DoIsTrue, DoRepr, DoStr, DoDir, PlainTask, ToEval, ToAttribute, ToCall, ToCompare, ToProtocol, ToObject, Ended, Chose, Said, Asks, Ends, is_text, datum_at, slot_at, text_keys, with_node, next_node, with_scope, without_scope, class_object, class_number, is_instance, nearest_built_in, filled, with_one, with_two, with_three, with_text, native_end, named_end, the_object, the_type, the_tuple, native_task, show, call_native, Row, start, fork, ask, pass, end, value, done, fault, elsewhere, none, truth, is_not_implemented, on_value, on_truth, on_done, most_items}
+use Rattle.proto_call.specs.Below.{ℕ, zero, suc, Bool, true, false, cond, not, eqb, List, [], Option, Some, None, is_some, is_none, length, map, nat_le, PyObjectRef, AbstractMethods, ArgCount, CannotCreate, FormatSpec, InitNotNone, NoSpecial, NotCallable, SelfType, TooLong, UnexpectedKeyword, UnsafeNew, Call, Init, New, SlotEntry, Native, Wrapper, ObjectNative, Eq, value_of, with_value, Text, Tree, Started, known_text, found, slot, natives_of, Datum, AnObject, AFunction, ATuple, AList, PlainWorld, Bindings, DoEval, CallJob, DoCall, DoBody, DoTypeCall, DoNew, DoInit, DoObject, DoGeneric, DoGenericSet, DoSpecial, DoCmp, DoIsTrue, DoRepr, DoStr, DoDir, PlainTask, ToEval, ToAttribute, ToCall, ToCompare, ToProtocol, ToObject, Ended, Chose, Said, Asks, Ends, is_text, datum_at, slot_at, text_keys, with_node, next_node, with_scope, without_scope, class_object, class_number, is_instance, nearest_built_in, filled, with_one, with_two, with_three, with_text, native_end, named_end, the_object, the_type, the_tuple, native_task, show, call_native, Row, start, fork, ask, pass, end, value, done, fault, elsewhere, none, truth, is_not_implemented, on_value, on_truth, on_done, most_items}
 use Rattle.std.specs.Prelude.{◌&&◌, ◌||◌, ◌∷◌}
 use Rattle.py_node.specs.declared.entry.ObjectNative.TheVariants as object
 use Rattle.py_node.specs.declared.known.Known.TheVariants as known

@@ -5,7 +5,7 @@ ghost use Rattle.proto_call.specs.Below.{[], map, length, slice_get, Ok, IfOk, I
 ghost use Rattle.std.specs.Prelude.{◌≡◌, ◌≤◌, ◌++◌, ◌∷◌};
 ghost use Rattle.proto_call.specs.EvalForms.Words.{one_of};
 ghost use Rattle.proto_call.specs.EvalForms.Say.{bind_say, func_say, raise_say, tuple_say, list_say};
-ghost use Rattle.proto_call.specs.EvalForms.Rows.{Begins, Resumes, Continues, ContinuesTree, EndsRow, IsOwn, HasValues, IsOther, of_eval_kept, operands, operands_at};
+ghost use Rattle.proto_call.specs.EvalForms.Rows.{Begins, Resumes, Continues, EndsRow, Goes, IsOwn, HasValues, IsOther, of_eval_kept, operands, operands_at, operands_row};
 
 mod attr;
 pub mod bounds;
@@ -145,7 +145,8 @@ fn one_more(
 ) -> Result<Step<EvalKept>, OutOfMemory>
     requires kept { AllHold world.old (of_eval_kept (EvalKept.Operands e values)) }
     requires answer { Holds world.old (IsNode value) }
-    ensures goes { IfOk result (λ step. Continues e (values.items ++ value ∷ []) world.old world.new step) }
+    ensures goes { IfOk result (λ step.
+        Resumes (EvalKept.Operands e values) (Ok (Answer.Value value)) world.old world.new step) }
     ensures safe { Leaves of_eval_kept world.old world.new result }
 {
     let values = with_value(values, value)?;
@@ -315,7 +316,7 @@ pub(crate) fn names_of(
 // A constant is a fixed object, or a new one.
 #[tactic(auto, unfolding(crate::specs::EvalForms::Say::eval_say, py_node::specs::BuiltIns::place_of))]
 fn const_step(world: &mut World, constant: Constant) -> Result<Step<EvalKept>, OutOfMemory>
-    ensures goes { IfOk result (λ step. ContinuesTree (λ t. TConst (literal_of constant)) [] world.old world.new step) }
+    ensures goes { IfOk result (λ step. Goes (λ t. operands_row (TConst (literal_of constant)) []) world.old world.new step) }
     ensures safe { Leaves of_eval_kept world.old world.new result }
 {
     match constant {

@@ -1,85 +1,66 @@
 -- The ways of a test by a class.
-use Rattle.proto_object.proofs.Below.{ℕ, [], true, Ok, refl, sym, ap, subst, eqb, Vec, PyObjectRef, Instancecheck, Subclasscheck, known_text, Truth, Step, Ask, End, Task, the_type, DoSpecial, DoIsInstance, DoInst, DoIsSubclass, DoSub, ToAttribute, ToObject, Chose, ReadObjects, noting, World, Reading, Reads, plain, task_of, Steps, items_at, says, any_of, is_exactly, ObjectKept, AfterCheck, Each, InstanceOf, SubclassOf, by_way, way_of, object_job_say, Begins, object_stands, turn_job, turn_step}
+use Rattle.proto_object.proofs.Below.{ℕ, [], true, Ok, refl, sym, ap, ◌∙◌, subst, eqb, Vec, PyObjectRef, Known, Instancecheck, Subclasscheck, known_text, ObjectTask, Truth, Step, Ask, End, Task, the_type, DoSpecial, ToAttribute, ToObject, Chose, Row, PlainWorld, Told, ReadObjects, noting, choose, object_job, World, Reading, Reads, plain, task_of, Steps, Goes, items_at, says, any_of, is_exactly, ObjectKept, AfterCheck, Each, Turn, InstanceOf, SubclassOf, by_way, way_of, object_job_say, Begins, object_group, object_stands, turn_job, turn_step, steps-noting}
 use Rattle.std.proofs.Common.{◌≡◌, ◌∷◌, ◌&&◌}
 use Rattle.py_node.specs.declared.protocol.ObjectTask.TheVariants as object
 use Rattle.py_node.specs.declared.task.Task.TheVariants as task
 use Rattle.proto_object.specs.declared.ObjectKept.TheVariants.{Pass}
-use Rattle.proto_object.proofs.InTurn.{noting-one, noting-two, takes-turn}
+use Rattle.proto_object.proofs.InTurn.{reads-each}
 
--- the way of a test, whether an object is an instance of a class
-abbrev instance_way : World → PyObjectRef → PyObjectRef → ℕ → Type 0
-instance_way w o c n =
-    (t : Reading) → Reads t w → way_of (plain t w) (is_exactly (plain t w) o c.0) Instancecheck c ≡ n
+-- a test by a class: its task, the name of the special method, what is tested and the class, what is asked in the plain way and of each object of a tuple, and the way that it has
+pub record Test : Type 0 where
+  pub whole : ObjectTask
+  pub name : Known
+  pub object : PyObjectRef
+  pub class : PyObjectRef
+  pub plainly : ObjectTask
+  pub turn : Turn
+  pub way : PlainWorld → ℕ
 
-module _ (w : World) (o c : PyObjectRef) where
-  instance-first : (t : Reading) (n : ℕ) → way_of (plain t w) (is_exactly (plain t w) o c.0) Instancecheck c ≡ n → object_job_say (plain t w) (DoIsInstance o c) [] ≡ noting (Chose n) (by_way (plain t w) Instancecheck o c (ToObject (DoInst o c)) (λ k. ToObject (DoIsInstance o k)) n [])
-  unfolding object_job_say
-  instance-first t n e =
-      ap (λ m. noting (Chose m) (by_way (plain t w) Instancecheck o c (ToObject (DoInst o c)) (λ k. ToObject (DoIsInstance o k)) m [])) e
+-- its row, in one of the ways
+abbrev by : Test → PlainWorld → ℕ → Row
+by p u = by_way u p.name p.object p.class (ToObject (object_job p.plainly)) (turn_job p.turn)
 
-  instance-steps : (n : ℕ) (step : Step ObjectKept) → instance_way w o c n → ((t : Reading) → Reads t w → Steps object_job_say (object_stands t) t (DoIsInstance o c) [] (noting (Chose n) (by_way (plain t w) Instancecheck o c (ToObject (DoInst o c)) (λ k. ToObject (DoIsInstance o k)) n [])) step w) → Begins (object.IsInstance o c) w w step
-  instance-steps n step way h = λ t r.
-      (r, subst (λ said. Steps object_job_say (object_stands t) t (DoIsInstance o c) [] said step w) (sym (instance-first t n (way t r))) (h t r))
+abbrev IsTest : Test → Type 0
+IsTest p = (u : PlainWorld) (told : Told) → object_job_say u (object_job p.whole) told ≡ choose (p.way u) (by p u) told
 
-  pub instance-at-once : instance_way w o c 0 → Begins (object.IsInstance o c) w w (End (Ok (Truth true)))
-  instance-at-once way = instance-steps 0 (End (Ok (Truth true))) way (λ t r. (refl, refl))
+-- whether an object is an instance of a class
+abbrev pub instance : PyObjectRef → PyObjectRef → Test
+instance o c =
+    record { whole = object.IsInstance o c; name = Instancecheck; object = o; class = c; plainly = object.Inst o c; turn = InstanceOf o; way = λ u. way_of u (is_exactly u o c.0) Instancecheck c }
 
-  pub instance-plainly : instance_way w o c 1 → Begins (object.IsInstance o c) w w (Ask (task.Object (object.Inst o c)) Pass)
-  unfolding object_job_say
-  instance-plainly way =
-      instance-steps 1 (Ask (task.Object (object.Inst o c)) Pass) way (λ t r. (refl, refl, record { says = λ u q more. refl }))
+-- whether a class is a subclass of another
+abbrev pub subclass : PyObjectRef → PyObjectRef → Test
+subclass d c =
+    record { whole = object.IsSubclass d c; name = Subclasscheck; object = d; class = c; plainly = object.Sub d c; turn = SubclassOf d; way = λ u. way_of u (is_exactly u c the_type && eqb d.0 c.0) Subclasscheck c }
 
-  pub instance-called : (asked : Task) → instance_way w o c 3 → ((t : Reading) → Reads t w → task_of t asked ≡ ToAttribute (DoSpecial c (known_text Instancecheck) (o ∷ []) [])) → Begins (object.IsInstance o c) w w (Ask asked AfterCheck)
-  unfolding object_job_say
-  instance-called asked way e =
-      instance-steps 3 (Ask asked AfterCheck) way (λ t r. (e t r, refl, record { says = λ u q more. refl }))
+pub instance-is : (o c : PyObjectRef) → IsTest (instance o c)
+unfolding object_job_say
+instance-is o c = λ u told. refl
 
-  pub instance-each : (items : Vec PyObjectRef) → instance_way w o c 2 → ((t : Reading) → items_at (plain t w) c ≡ items.items) → Begins (object.IsInstance o c) w w (turn_step (InstanceOf o) items.items (Each (InstanceOf o) items 1))
-  unfolding object_job_say
-  instance-each items way is =
-      let step = turn_step (InstanceOf o) items.items (Each (InstanceOf o) items 1) in
-      instance-steps 2 step way (λ t r.
+pub subclass-is : (d c : PyObjectRef) → IsTest (subclass d c)
+unfolding object_job_say
+subclass-is d c = λ u told. refl
+
+module _ (p : Test) (is : IsTest p) (w : World) where
+  abbrev Has : ℕ → Type 0
+  Has n = (t : Reading) → Reads t w → p.way (plain t w) ≡ n
+
+  steps : (n : ℕ) (step : Step ObjectKept) → Has n → Goes object_group (λ t u. by p u n) w w step → Begins p.whole w w step
+  steps n step way h = λ t q.
+      let k = h t q in
       let u = plain t w in
-      let job = DoIsInstance o c in
-      let rs = items.items in
-      let go = any_of u (turn_job (InstanceOf o)) says in
-      subst (λ l. Steps object_job_say (object_stands t) t job [] (noting (Chose 2) (noting (ReadObjects l) (go l []))) step w) (sym (is t)) (noting-one t w job (Chose 2) (noting (ReadObjects rs) (go rs [])) step (noting-two t w job (Chose 2) (ReadObjects rs) (go rs []) step (takes-turn t w job (Chose 2 ∷ (ReadObjects rs ∷ [])) (InstanceOf o) items 0 rs refl (λ v more. refl)))))
+      let row = λ (v : PlainWorld). object_job_say v (object_job p.whole) in
+      (k.0, subst (λ s. Steps (object_stands t) t row s step w) (sym (is u [] ∙ ap (λ m. noting (Chose m) (by p u m [])) (way t q))) (steps-noting (object_stands t) t (λ v. by p v n) row (Chose n) (λ v more. is v (Chose n ∷ more)) (by p u n []) step w k.1))
 
--- the way of a test, whether a class is a subclass of another
-abbrev subclass_way : World → PyObjectRef → PyObjectRef → ℕ → Type 0
-subclass_way w d c n =
-    (t : Reading) → Reads t w → way_of (plain t w) (is_exactly (plain t w) c the_type && eqb d.0 c.0) Subclasscheck c ≡ n
+  pub at-once : Has 0 → Begins p.whole w w (End (Ok (Truth true)))
+  at-once way = steps 0 (End (Ok (Truth true))) way (λ t q. (q, (refl, refl)))
 
-module _ (w : World) (d c : PyObjectRef) where
-  subclass-first : (t : Reading) (n : ℕ) → way_of (plain t w) (is_exactly (plain t w) c the_type && eqb d.0 c.0) Subclasscheck c ≡ n → object_job_say (plain t w) (DoIsSubclass d c) [] ≡ noting (Chose n) (by_way (plain t w) Subclasscheck d c (ToObject (DoSub d c)) (λ k. ToObject (DoIsSubclass d k)) n [])
-  unfolding object_job_say
-  subclass-first t n e =
-      ap (λ m. noting (Chose m) (by_way (plain t w) Subclasscheck d c (ToObject (DoSub d c)) (λ k. ToObject (DoIsSubclass d k)) m [])) e
+  pub plainly : Has 1 → Begins p.whole w w (Ask (task.Object p.plainly) Pass)
+  plainly way = steps 1 (Ask (task.Object p.plainly) Pass) way (λ t q. (q, (refl, refl, λ u r more. refl)))
 
-  subclass-steps : (n : ℕ) (step : Step ObjectKept) → subclass_way w d c n → ((t : Reading) → Reads t w → Steps object_job_say (object_stands t) t (DoIsSubclass d c) [] (noting (Chose n) (by_way (plain t w) Subclasscheck d c (ToObject (DoSub d c)) (λ k. ToObject (DoIsSubclass d k)) n [])) step w) → Begins (object.IsSubclass d c) w w step
-  subclass-steps n step way h = λ t r.
-      (r, subst (λ said. Steps object_job_say (object_stands t) t (DoIsSubclass d c) [] said step w) (sym (subclass-first t n (way t r))) (h t r))
+  pub called : (asked : Task) → Has 3 → ((t : Reading) → Reads t w → task_of t asked ≡ ToAttribute (DoSpecial p.class (known_text p.name) (p.object ∷ []) [])) → Begins p.whole w w (Ask asked AfterCheck)
+  called asked way e = steps 3 (Ask asked AfterCheck) way (λ t q. (q, (e t q, refl, λ u r more. refl)))
 
-  pub subclass-at-once : subclass_way w d c 0 → Begins (object.IsSubclass d c) w w (End (Ok (Truth true)))
-  subclass-at-once way = subclass-steps 0 (End (Ok (Truth true))) way (λ t r. (refl, refl))
-
-  pub subclass-plainly : subclass_way w d c 1 → Begins (object.IsSubclass d c) w w (Ask (task.Object (object.Sub d c)) Pass)
-  unfolding object_job_say
-  subclass-plainly way =
-      subclass-steps 1 (Ask (task.Object (object.Sub d c)) Pass) way (λ t r. (refl, refl, record { says = λ u q more. refl }))
-
-  pub subclass-called : (asked : Task) → subclass_way w d c 3 → ((t : Reading) → Reads t w → task_of t asked ≡ ToAttribute (DoSpecial c (known_text Subclasscheck) (d ∷ []) [])) → Begins (object.IsSubclass d c) w w (Ask asked AfterCheck)
-  unfolding object_job_say
-  subclass-called asked way e =
-      subclass-steps 3 (Ask asked AfterCheck) way (λ t r. (e t r, refl, record { says = λ u q more. refl }))
-
-  pub subclass-each : (items : Vec PyObjectRef) → subclass_way w d c 2 → ((t : Reading) → items_at (plain t w) c ≡ items.items) → Begins (object.IsSubclass d c) w w (turn_step (SubclassOf d) items.items (Each (SubclassOf d) items 1))
-  unfolding object_job_say
-  subclass-each items way is =
-      let step = turn_step (SubclassOf d) items.items (Each (SubclassOf d) items 1) in
-      subclass-steps 2 step way (λ t r.
-      let u = plain t w in
-      let job = DoIsSubclass d c in
-      let rs = items.items in
-      let go = any_of u (turn_job (SubclassOf d)) says in
-      subst (λ l. Steps object_job_say (object_stands t) t job [] (noting (Chose 2) (noting (ReadObjects l) (go l []))) step w) (sym (is t)) (noting-one t w job (Chose 2) (noting (ReadObjects rs) (go rs [])) step (noting-two t w job (Chose 2) (ReadObjects rs) (go rs []) step (takes-turn t w job (Chose 2 ∷ (ReadObjects rs ∷ [])) (SubclassOf d) items 0 rs refl (λ v more. refl)))))
+  pub each : (items : Vec PyObjectRef) → Has 2 → ((t : Reading) → items_at (plain t w) p.class ≡ items.items) → Begins p.whole w w (turn_step p.turn items.items (Each p.turn items 1))
+  each items way at =
+      steps 2 (turn_step p.turn items.items (Each p.turn items 1)) way (reads-each w p.turn items (λ t u. by p u 2) (λ t u more. refl) (λ t. ap (λ l. noting (ReadObjects l) (any_of (plain t w) (turn_job p.turn) says l [])) (at t)))

@@ -1,5 +1,5 @@
 -- Items that are asked one after another.
-use Rattle.proto_object.proofs.Below.{ℕ, zero, suc, List, [], drop, refl, sym, ap, ◌∙◌, subst, arith, true, false, Some, None, Ok, slice_get, Vec, append-nil, PyObjectRef, Truth, Value, Step, Ask, End, PlainWorld, ObjectJob, DoAbsSub, ATuple, Answered, Ended, Fact, Told, Said, Asks, Ends, ReadObjects, noting, value, ref, datum_at, World, Reading, plain, Steps, Held, AllHold, AreNodes, IsNode, Holds, of_object_task, says, any_of, ObjectKept, AfterOwn, Each, Turn, InstanceOf, SubclassOf, Derives, tuple_once, object_job_say, asked_of, object_stands, of_turn, turn_job, turn_stands, turn_step}
+use Rattle.proto_object.proofs.Below.{ℕ, zero, suc, List, [], drop, refl, sym, ap, ◌∙◌, arith, true, false, Some, None, Ok, slice_get, Vec, PyObjectRef, Truth, Value, End, PlainWorld, ATuple, Told, ReadObjects, noting, value, datum_at, World, Reading, plain, Goes, Point, Held, AllHold, AreNodes, IsNode, Holds, of_object_task, says, any_of, AfterOwn, Each, Turn, InstanceOf, SubclassOf, Derives, tuple_once, asked_of, object_group, object_stands, of_turn, turn_job, turn_rest, turn_step, goes-noting}
 use Rattle.std.proofs.Common.{◌≡◌, ◌+◌, ◌∷◌, ◌++◌}
 use Rattle.proto_object.specs.Rows.{Resumes}
 
@@ -15,79 +15,29 @@ left-next xs n r rs e =
     let next : n + 1 ≡ suc n = omega arith in
     ap (λ m. drop m xs) next ∙ left-after xs n r rs e
 
--- the row that stands where one item was asked
-stands-on : (u : PlainWorld) (turn : Turn) (r : PyObjectRef) (rs : List PyObjectRef) (q : Ended) (more : Told) → any_of u (turn_job turn) says (r ∷ rs) (Answered q ∷ more) ≡ object_job_say u (turn_stands turn rs).task ((turn_stands turn rs).told ++ Answered q ∷ more)
-unfolding object_job_say
-stands-on u (InstanceOf o) r rs q more = refl
-stands-on u (SubclassOf d) r rs q more = refl
-stands-on u (Derives c) r rs q more = refl
-
 -- a row that goes over items from here on takes its turn
-pub takes-turn : (t : Reading) (w : World) (job : ObjectJob) (told : Told) (turn : Turn) (items : Vec PyObjectRef) (n : ℕ) (rs : List PyObjectRef) → drop n items.items ≡ rs → ((u : PlainWorld) (more : Told) → object_job_say u job (told ++ more) ≡ any_of u (turn_job turn) says rs more) → Steps object_job_say (object_stands t) t job told (any_of (plain t w) (turn_job turn) says rs []) (turn_step turn rs (Each turn items (n + 1))) w
-takes-turn t w job told turn items n [] e on = (refl, refl)
-takes-turn t w job told turn items n (r ∷ rs) e on = (
-  refl,
-  refl,
-  record {
-    says = λ u q more.
-        ap (λ l. object_job_say u job (l ++ Answered q ∷ more)) (append-nil told)
-        ∙ on u (Answered q ∷ more)
-        ∙ stands-on u turn r rs q more
-        ∙ ap (λ l. object_job_say u (turn_stands turn l).task ((turn_stands turn l).told ++ Answered q ∷ more)) (sym (left-next items.items n r rs e));
-  },
-)
-
--- what a row keeps in mind is told after
-pub noting-one : (t : Reading) (w : World) (job : ObjectJob) (f : Fact) (said : Said) (step : Step ObjectKept) → Steps object_job_say (object_stands t) t job (f ∷ []) said step w → Steps object_job_say (object_stands t) t job [] (noting f said) step w
-noting-one t w job f (Asks v learnt other) (Ask asked kept) h = h
-noting-one t w job f (Asks v learnt other) (End r) h = h
-noting-one t w job f (Ends v r) (Ask asked kept) h = h
-noting-one t w job f (Ends v r) (End s) h = h
-
-pub noting-two : (t : Reading) (w : World) (job : ObjectJob) (f g : Fact) (said : Said) (step : Step ObjectKept) → Steps object_job_say (object_stands t) t job (f ∷ (g ∷ [])) said step w → Steps object_job_say (object_stands t) t job (f ∷ []) (noting g said) step w
-noting-two t w job f g (Asks v learnt other) (Ask asked kept) h = h
-noting-two t w job f g (Asks v learnt other) (End r) h = h
-noting-two t w job f g (Ends v r) (Ask asked kept) h = h
-noting-two t w job f g (Ends v r) (End s) h = h
+pub takes-turn : (w : World) (turn : Turn) (items : Vec PyObjectRef) (n : ℕ) (rs : List PyObjectRef) → drop n items.items ≡ rs → Goes object_group (λ t u. any_of u (turn_job turn) says rs) w w (turn_step turn rs (Each turn items (n + 1)))
+takes-turn w turn items n [] e = λ t q. (q, (refl, refl))
+takes-turn w turn items n (r ∷ rs) e = λ t q.
+    (q, (refl, refl, λ u s more. ap (λ l. turn_rest u turn l s more) (sym (left-next items.items n r rs e))))
 
 -- an item does not count: the next one is asked
-turns-on : (u : PlainWorld) (turn : Turn) (rs : List PyObjectRef) (more : Told) → object_job_say u (turn_stands turn rs).task (((turn_stands turn rs).told ++ Answered (says false) ∷ []) ++ more) ≡ any_of u (turn_job turn) says rs more
-unfolding object_job_say
-turns-on u (InstanceOf o) rs more = refl
-turns-on u (SubclassOf d) rs more = refl
-turns-on u (Derives c) rs more = refl
-
-turn-said : (u : PlainWorld) (turn : Turn) (rs : List PyObjectRef) → object_job_say u (turn_stands turn rs).task ((turn_stands turn rs).told ++ Answered (says false) ∷ []) ≡ any_of u (turn_job turn) says rs []
-unfolding object_job_say
-turn-said u (InstanceOf o) rs = refl
-turn-said u (SubclassOf d) rs = refl
-turn-said u (Derives c) rs = refl
-
 pub next-goes : (w : World) (turn : Turn) (items : Vec PyObjectRef) (n : ℕ) → Resumes (Each turn items n) (Ok (Truth false)) w w (turn_step turn (drop n items.items) (Each turn items (n + 1)))
-next-goes w turn items n = λ t r.
-    let rs = drop n items.items in
-    let p = turn_stands turn rs in
-    let told = p.told ++ Answered (says false) ∷ [] in
-    let step = turn_step turn rs (Each turn items (n + 1)) in
-    (r, subst (λ said. Steps object_job_say (object_stands t) t p.task told said step w) (sym (turn-said (plain t w) turn rs)) (takes-turn t w p.task told turn items n rs refl (λ u more. turns-on u turn rs more)))
+next-goes w turn items n = takes-turn w turn items n (drop n items.items) refl
 
 -- an item counts, and that is the answer
 pub counts : (w : World) (turn : Turn) (items : Vec PyObjectRef) (n : ℕ) → Resumes (Each turn items n) (Ok (Truth true)) w w (End (Ok (Truth true)))
-unfolding object_job_say
-counts w (InstanceOf o) items n = λ t r. (r, (refl, refl))
-counts w (SubclassOf d) items n = λ t r. (r, (refl, refl))
-counts w (Derives c) items n = λ t r. (r, (refl, refl))
+counts w turn items n = λ t q. (q, (refl, refl))
 
--- the bases of what is to derive from an object are read once, and each is asked
+-- the objects of a tuple are read once, and each is asked
+pub reads-each : (w : World) (turn : Turn) (items : Vec PyObjectRef) (whole : Reading → Point) → ((t : Reading) (u : PlainWorld) (more : Told) → whole t u (ReadObjects items.items ∷ more) ≡ any_of u (turn_job turn) says items.items more) → ((t : Reading) → whole t (plain t w) [] ≡ noting (ReadObjects items.items) (any_of (plain t w) (turn_job turn) says items.items [])) → Goes object_group whole w w (turn_step turn items.items (Each turn items 1))
+reads-each w turn items whole on is =
+    goes-noting object_group (λ t u. any_of u (turn_job turn) says items.items) whole (ReadObjects items.items) on w w (turn_step turn items.items (Each turn items 1)) is (takes-turn w turn items 0 items.items refl)
+
+-- such are the bases of what is to derive from an object
 pub bases-go : (w : World) (c b : PyObjectRef) (items : Vec PyObjectRef) → ((t : Reading) → datum_at (plain t w) b ≡ Some (ATuple items.items)) → Resumes (AfterOwn c) (Ok (Value b)) w w (turn_step (Derives c) items.items (Each (Derives c) items 1))
-unfolding object_job_say
-bases-go w c b items is = λ t r.
-    let u = plain t w in
-    let rs = items.items in
-    let job = DoAbsSub (ref 0) c in
-    let step = turn_step (Derives c) rs (Each (Derives c) items 1) in
-    let first = Answered (value b) in
-    (r, subst (λ d. Steps object_job_say (object_stands t) t job (first ∷ []) (tuple_once u d (any_of u (turn_job (Derives c)) says) []) step w) (sym (is t)) (noting-two t w job first (ReadObjects rs) (any_of u (turn_job (Derives c)) says rs []) step (takes-turn t w job (first ∷ (ReadObjects rs ∷ [])) (Derives c) items 0 rs refl (λ v more. refl))))
+bases-go w c b items is =
+    reads-each w (Derives c) items (λ t. object_stands t (AfterOwn c) (value b)) (λ t u more. refl) (λ t. let u = plain t w in ap (λ d. tuple_once u d (any_of u (turn_job (Derives c)) says) []) (is t))
 
 -- the item at a place, and those after it
 pub drop-got : {A : Type 0} (xs : List A) (i : ℕ) (x : A) → slice_get xs i ≡ Some x → drop i xs ≡ x ∷ drop (i + 1) xs

@@ -3,8 +3,7 @@ pub use Rattle.class_world.proofs.Claims.{all-append, more-nodes, no-nodes, node
 pub use Rattle.class_world.proofs.Growth.{grows-itself, grows-on}
 pub use Rattle.class_world.specs.Rows.{EndsAs}
 pub use Rattle.proto_object.proofs.Below.{AList, AllHold, Answered, AreNodes, Ask, Collecting, DoSpecial, Each, End, Equal, Exhausted, Gathering, Holds, Instancecheck, IsNode, Next, PlainWorld, PyObjectRef, Said, Subclasscheck, ToAttribute, Truth, Value, bindings, datum, entered, is_numeral, keyed, known_text, most_items, names_made, other_keys, own_keys, plain, the_list, turn_of, way_of, with_slice, without_sign}
-unfoldable pub use Rattle.proto_object.proofs.Below.{number_job_say}
-pub use Rattle.proto_object.proofs.ByWay.{instance-at-once, instance-called, instance-each, instance-plainly, subclass-at-once, subclass-called, subclass-each, subclass-plainly}
+pub use Rattle.proto_object.proofs.ByWay.{at-once, called, each, instance, instance-is, plainly, subclass, subclass-is}
 pub use Rattle.proto_object.proofs.InTurn.{asked-holds, drop-got, drop-none, next-goes}
 pub use Rattle.proto_object.proofs.Named.{AreOthers, dir-ends, dir-said, no-name, node-at, one-name, other-no-name, others-more, others-same, text-named}
 pub use Rattle.proto_object.proofs.ProtoItems.Calling.{calls, calls-safe}

@@ -1,5 +1,6 @@
 pub mod Lemmas
 pub mod Below
+pub mod AllItems
 pub mod InTurn
 pub mod ByWay
 pub mod Named

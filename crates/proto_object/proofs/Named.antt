@@ -1,5 +1,5 @@
 -- The names of attributes, and the keys that are none of them.
-use Rattle.proto_object.proofs.Below.{ℕ, zero, suc, Bool, true, false, cond, not, List, [], length, filter, drop, get_or, Option, Some, None, refl, sym, ap, ◌∙◌, subst, arith, append_assoc, eqb, slice_get, is_some, bytes_eq-Decides, eq-eqb, eqb-true, PyObjectRef, PyStrInterned, Raised as Fault, Answer, End, is_same_name, value_of, Text, Payload, all_attributes, dict_of, is_text_datum, Datum, AText, PlainWorld, DoDir, Said, is_text, class_at, datum_at, Held, World, Reading, Reads, bindings, datum, plain, EndsAs, Steps, IsNode, AreNodes, AllHold, Holds, of_binding, of_each, more-nodes, keyed, or_no_attributes, attributes_for, dir_by, has_name, names_made, other_keys, own_keys, object_job_say, Begins, object_stands}
+use Rattle.proto_object.proofs.Below.{ℕ, zero, suc, Bool, true, false, cond, not, List, [], length, filter, drop, get_or, Option, Some, None, refl, sym, ap, ◌∙◌, arith, append_assoc, eqb, slice_get, is_some, bytes_eq-Decides, eq-eqb, eqb-true, PyObjectRef, PyStrInterned, Raised as Fault, Answer, End, is_same_name, value_of, Text, Payload, all_attributes, dict_of, is_text_datum, Datum, AText, PlainWorld, DoDir, Said, is_text, class_at, datum_at, Held, World, Reading, Reads, bindings, datum, plain, EndsAs, IsNode, AreNodes, AllHold, Holds, of_binding, of_each, more-nodes, keyed, or_no_attributes, attributes_for, dir_by, has_name, names_made, other_keys, own_keys, object_job_say, Begins, object_group, ends-follow, read-follows}
 use Rattle.std.proofs.Common.{◌≡◌, ◌+◌, ◌<◌, ◌∷◌, ◌++◌}
 use Rattle.std.specs.Prelude.{Result}
 use Rattle.py_node.specs.declared.protocol.ObjectTask.TheVariants as object
@@ -136,9 +136,9 @@ module _ (w : World) (attrs : Bound) (keys others : List PyObjectRef) (i : ℕ) 
 
 -- the row of an object's names ends so
 pub dir-ends : (old new : World) (o : PyObjectRef) (said : Reading → PlainWorld → Said) (r : Result Answer Fault) → ((t : Reading) → Reads t old → object_job_say (plain t old) (DoDir o) [] ≡ said t (plain t old)) → EndsAs said old new r → Begins (object.Dir o) old new (End r)
-dir-ends old new o said r same h = λ t q.
-    let k = h t q in
-    (k.0, subst (λ s. Steps object_job_say (object_stands t) t (DoDir o) [] s (End r) new) (sym (same t k.0 ∙ k.1)) (refl, refl))
+dir-ends old new o said r same h =
+    let row = λ (t : Reading). object_group.row t (object.Dir o) in
+    read-follows object_group row (λ t u. row t u []) old new said (End r) same (ends-follow object_group row said old new r h)
 
 pub dir-said : (u : PlainWorld) (o : PyObjectRef) (c : ℕ) (attrs : List (Text × PyObjectRef)) (keys others : List PyObjectRef) → class_at u o ≡ Some c → all_attributes is_text u.classes c ≡ Some attrs → own_keys u (dict_of u o) ≡ keys → other_keys u attrs keys ≡ others → object_job_say u (DoDir o) [] ≡ names_made others (keyed u [] attrs)
 unfolding object_job_say

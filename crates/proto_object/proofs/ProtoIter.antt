@@ -1,4 +1,3 @@
-pub mod Steps
 pub mod At
 pub mod Collect
 pub mod Search

@@ -75,10 +75,12 @@ abbrev pub sub_by : PlainWorld → Option ℕ → Option ℕ → PyObjectRef →
 sub_by w (Some k) (Some n) d = Ends w (says (is_sub w.classes k n))
 sub_by w _ _ d = pass w (attribute d known.Bases)
 
+abbrev pub second_rest : PlainWorld → PyObjectRef → PyObjectRef → Ended → Row
+second_rest w d c s = on_bases w s (λ e. start (pass w (ToObject (DoAbsSub d c))) (end w))
+
 abbrev pub sub_say : PlainWorld → PyObjectRef → PyObjectRef → Row
 sub_say w d c =
-    start (sub_by w (class_number (datum_at w d)) (class_number (datum_at w c)) d) (λ r. on_bases w r (λ b.
-    ask w (attribute c known.Bases) (λ s. on_bases w s (λ e. start (pass w (ToObject (DoAbsSub d c))) (end w)))))
+    start (sub_by w (class_number (datum_at w d)) (class_number (datum_at w c)) d) (λ r. on_bases w r (λ b. ask w (attribute c known.Bases) (second_rest w d c)))
 
 -- the bases must be a tuple, which is read once
 abbrev pub tuple_once : PlainWorld → Option Datum → (List PyObjectRef → Row) → Row

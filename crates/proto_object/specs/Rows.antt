@@ -1,16 +1,19 @@
 -- What the contracts of the rows of what all objects can do say.
-use Rattle.proto_object.specs.Below.{ℕ, false, List, [], drop, Result, Ok, Raised as Fault, PyObjectRef, ObjectTask, Answer, Truth, Step, Ask, End, PlainWorld, ObjectJob, DoHash, DoRepr, DoStr, DoFormat, DoDir, DoIsInstance, DoInst, DoIsSubclass, DoSub, DoAbsSub, PlainTask, ToObject, Answered, Chose, ReadObjects, Said, value, none, Pending, ref, World, Reading, object_job, Group, Claim, AreNodes, IsNode}
+use Rattle.proto_object.specs.Below.{ℕ, true, false, cond, List, [], drop, Result, Ok, Raised as Fault, PyObjectRef, ReprType, StrType, FormatType, ObjectTask, Answer, Truth, Step, Ask, End, PlainWorld, DoIsTrue, PlainTask, ToObject, ToProtocol, Ended, Row, start, ask, pass, end, on_truth, on_value, datum_at, World, Reading, object_job, any_of, says, Group, Point, Claim, AreNodes, IsNode}
 use Rattle.std.specs.Prelude.{◌∷◌}
 use Rattle.py_node.specs.declared.protocol.ObjectTask.TheVariants as object
 use Rattle.py_node.specs.declared.task.Task.TheVariants as task
-use Rattle.class_world.specs.Rows as rows
+use Rattle.py_node.specs.declared.known.Known.TheVariants as known
+use Rattle.row_kit.specs.Points as points
 use Rattle.proto_object.specs.declared.ObjectKept.{ObjectKept}
 use Rattle.proto_object.specs.declared.ObjectKept.TheVariants as kept
 use Rattle.proto_object.specs.declared.turns.Turn.{Turn}
 use Rattle.proto_object.specs.declared.turns.Turn.TheVariants.{InstanceOf, SubclassOf, Derives}
 use Rattle.proto_object.specs.declared.ways.Way.{Way}
 use Rattle.proto_object.specs.declared.ways.Way.TheVariants.{AtOnce, Plainly, ByEach, Called}
+use Rattle.proto_object.specs.Classes.{abstract_by, attribute, inst_rest, on_bases, second_rest, tuple_once}
 use Rattle.proto_object.specs.Say.{object_job_say}
+use Rattle.proto_object.specs.Texts.{hash_rest, text_only}
 
 -- how a test by a class is done, as its row numbers it
 abbrev pub way_number : Way → ℕ
@@ -34,27 +37,25 @@ abbrev pub turn_step : Turn → List PyObjectRef → ObjectKept → Step ObjectK
 turn_step turn [] later = End (Ok (Truth false))
 turn_step turn (r ∷ rs) later = Ask (task.Object (asked_of turn r)) later
 
--- the row that goes over items, where one was asked and these are left
-abbrev pub turn_stands : Turn → List PyObjectRef → Pending ObjectJob
-turn_stands (InstanceOf o) rs = record { task = DoIsInstance o (ref 0); told = Chose 2 ∷ (ReadObjects (ref 0 ∷ rs) ∷ []) }
-turn_stands (SubclassOf d) rs = record { task = DoIsSubclass d (ref 0); told = Chose 2 ∷ (ReadObjects (ref 0 ∷ rs) ∷ []) }
-turn_stands (Derives c) rs = record { task = DoAbsSub (ref 0) c; told = Answered (value none) ∷ (ReadObjects (ref 0 ∷ rs) ∷ []) }
+-- an item was asked, and these are left
+abbrev pub turn_rest : PlainWorld → Turn → List PyObjectRef → Ended → Row
+turn_rest w turn rs r = on_truth w r (λ b. cond b (end w (says true)) (any_of w (turn_job turn) says rs))
 
--- the row that goes on, at each answer, just as the row that the code keeps this for
-abbrev pub object_stands : Reading → ObjectKept → Pending ObjectJob
-object_stands t kept.Pass = record { task = DoDir (ref 0); told = [] }
-object_stands t kept.AfterHash = record { task = DoHash (ref 0); told = [] }
-object_stands t kept.AfterRepr = record { task = DoRepr (ref 0); told = [] }
-object_stands t kept.AfterStr = record { task = DoStr (ref 0); told = [] }
-object_stands t kept.AfterFormat = record { task = DoFormat (ref 0) (ref 0); told = [] }
-object_stands t kept.AfterCheck = record { task = DoIsInstance (ref 0) (ref 0); told = Chose 3 ∷ [] }
-object_stands t (kept.Each turn items next) = turn_stands turn (drop next items.items)
-object_stands t (kept.AfterClass o c) = record { task = DoInst o c; told = Chose 0 ∷ [] }
-object_stands t (kept.AfterBases o c) = record { task = DoInst o c; told = Chose 1 ∷ [] }
-object_stands t (kept.AfterOther c) = record { task = DoInst (ref 0) c; told = Chose 1 ∷ (Answered (value none) ∷ []) }
-object_stands t (kept.AfterFirst d c) = record { task = DoSub d c; told = [] }
-object_stands t (kept.AfterSecond d c) = record { task = DoSub d c; told = Answered (value none) ∷ [] }
-object_stands t (kept.AfterOwn c) = record { task = DoAbsSub (ref 0) c; told = [] }
+-- what is done with the answer where this is kept
+abbrev pub object_stands : Reading → ObjectKept → Ended → Point
+object_stands t kept.Pass r w = end w r
+object_stands t kept.AfterHash r w = hash_rest w r
+object_stands t kept.AfterRepr r w = text_only w ReprType r
+object_stands t kept.AfterStr r w = text_only w StrType r
+object_stands t kept.AfterFormat r w = text_only w FormatType r
+object_stands t kept.AfterCheck r w = on_value w r (λ v. start (pass w (ToProtocol (DoIsTrue v))) (end w))
+object_stands t (kept.Each turn items next) r w = turn_rest w turn (drop next items.items) r
+object_stands t (kept.AfterClass o c) r w = inst_rest w o c 0 r
+object_stands t (kept.AfterBases o c) r w = inst_rest w o c 1 r
+object_stands t (kept.AfterOther c) r w = on_value w r (λ k. start (abstract_by w k c) (end w))
+object_stands t (kept.AfterFirst d c) r w = on_bases w r (λ b. ask w (attribute c known.Bases) (second_rest w d c))
+object_stands t (kept.AfterSecond d c) r w = second_rest w d c r
+object_stands t (kept.AfterOwn c) r w = on_value w r (λ b. tuple_once w (datum_at w b) (any_of w (turn_job (Derives c)) says))
 
 abbrev pub of_turn : Turn → List Claim
 of_turn (InstanceOf o) = IsNode o ∷ []
@@ -72,16 +73,12 @@ of_object_kept (kept.AfterSecond d c) = IsNode d ∷ IsNode c ∷ []
 of_object_kept (kept.AfterOwn c) = IsNode c ∷ []
 of_object_kept _ = []
 
--- the group: its jobs, what they say, what goes on, and what is claimed of that
-abbrev pub object_group : Group ObjectTask ObjectJob ObjectKept
-object_group = record { job = λ t. object_job; say = object_job_say; stands = object_stands; claims = of_object_kept }
+-- the group: the row of a task, and what is done with an answer
+abbrev pub object_group : Group ObjectTask ObjectKept
+object_group = record { row = λ t task w. object_job_say w (object_job task); stands = object_stands }
 
 abbrev pub Begins : ObjectTask → World → World → Step ObjectKept → Type 0
-Begins = rows.Begins object_group
+Begins = points.Begins object_group
 
 abbrev pub Resumes : ObjectKept → Result Answer Fault → World → World → Step ObjectKept → Type 0
-Resumes = rows.Resumes object_group
-
--- the first step of a task, which is said to be this
-abbrev pub Starts : ObjectTask → (Reading → PlainWorld → Said) → World → World → Step ObjectKept → Type 0
-Starts = rows.Starts object_group
+Resumes = points.Resumes object_group

@@ -2,8 +2,7 @@
 pub use Rattle.class_world.proofs.Claims.{more-nodes, no-nodes}
 pub use Rattle.class_world.proofs.Filled.{two-hold}
 pub use Rattle.class_world.specs.Reading.{datum, plain}
-pub use Rattle.proto_ops.proofs.Below.{AText, Answered, Ask, Ends, Equal, FitsSigned, OfStr, Ordered, Truth, ended_with, is_not_implemented, native_repeat, quotient, remainder, repeat, the_str, total}
-unfoldable pub use Rattle.proto_ops.proofs.Below.{compare_job_say}
+pub use Rattle.proto_ops.proofs.Below.{AText, Answered, Ask, Ends, Equal, FitsSigned, OfStr, Ordered, Truth, asks-follow, compare_group, ended_with, is_not_implemented, native_repeat, quotient, remainder, repeat, the_str, total}
 pub use Rattle.proto_ops.proofs.Entered.{sum-made}
 pub use Rattle.proto_ops.proofs.Fits.{total-is}
 pub use Rattle.proto_ops.proofs.NativeNumbers.Pair.{pair-ends}
@@ -18,9 +17,9 @@ pub use Rattle.proto_ops.specs.ProtoCompare.Rows.{Resumes}
 unfoldable pub use Rattle.py_node.specs.BuiltIns.{place_of}
 pub use Rattle.proto_ops.specs.Below.{EndsAs, PlainWorld, PyObjectRef, Said, Text, with_times}
 pub use Rattle.row_kit.proofs.ContainersEnds.{same-if}
-pub use Rattle.row_kit.proofs.Ended.{sorted_ends, sorted_ok, sorted_raised, stop_ends}
+pub use Rattle.row_kit.proofs.Ended.{stop_ends}
 pub use Rattle.row_kit.specs.Say.{object_made, text_made}
-pub use Rattle.std.proofs.Common.{Err, List, Ok, Some, [], ap, arith, false, inl, inr, length, pos, refl, rules, subst, sym, true, true-eqb, ◌∙◌}
+pub use Rattle.std.proofs.Common.{Err, List, Ok, Some, [], ap, arith, false, inl, inr, length, pos, rules, subst, sym, true, true-eqb, ◌∙◌}
 pub use Rattle.std.proofs.lemmas.Int.{to_z-of_z}
 pub use Rattle.std.proofs.lemmas.Result.{err_from_is_err_and}
 pub use Rattle.std.specs.Int.{cast_unsigned, w128, w64}

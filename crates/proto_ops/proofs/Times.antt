@@ -1,6 +1,6 @@
 -- A sequence is repeated as often as an index says.
-use Rattle.proto_ops.proofs.Below.{◌∙◌, [], Option, Ok, refl, sym, ap, subst, RepeatTooLong, PyObjectRef, Value, Ask, PlainWorld, Answered, DoRepeat, DoInplaceRepeat, Told, ToOperator, Row, pass, value, within_index, datum_at, number_of, World, Reading, plain, Steps, InplaceTimes, Pass, Times, Resumes, operator_stands, operator_say}
-use Rattle.std.proofs.Common.{◌≡◌, ◌∷◌, ◌++◌, ℤ}
+use Rattle.proto_ops.proofs.Below.{◌∙◌, [], Option, Ok, refl, sym, ap, RepeatTooLong, PyObjectRef, Value, Ask, Asks, PlainTask, DoRepeat, DoInplaceRepeat, Told, ToOperator, Row, pass, value, within_index, datum_at, number_of, PlainWorld, World, Reading, plain, InplaceTimes, Pass, Times, Resumes, counted_rest, operator_group, operator_stands, asks-follow}
+use Rattle.std.proofs.Common.{◌≡◌, ℤ}
 use Rattle.py_node.specs.declared.task.OperatorTask.TheVariants as operator
 use Rattle.py_node.specs.declared.task.Task.TheVariants as task
 
@@ -8,20 +8,19 @@ use Rattle.py_node.specs.declared.task.Task.TheVariants as task
 abbrev Counts : Option ℤ → ℤ → Type 0
 Counts n z = (u : PlainWorld) (go : ℤ → Row) (told : Told) → within_index u RepeatTooLong n go told ≡ go z told
 
-pub times-asks : (w : World) (a i : PyObjectRef) (n : Option ℤ) (y z : ℤ) → y ≡ z → ((t : Reading) → number_of (datum_at (plain t w) i) ≡ n) → Counts n z → Resumes (Times a) (Ok (Value i)) w w (Ask (task.Operator (operator.Repeat a y)) Pass)
-unfolding operator_say
-times-asks w a i n y z same read counts = λ t r.
-    let u = plain t w in
-    let p = operator_stands t (Times a) in
-    let go = λ (m : ℤ) (told : Told). pass u (ToOperator (DoRepeat a m)) in
-    let said = ap (λ m. within_index u RepeatTooLong m go []) (read t) ∙ counts u go [] in
-    (r, subst (λ s. Steps operator_say (operator_stands t) t p.task (p.told ++ Answered (value i) ∷ []) s (Ask (task.Operator (operator.Repeat a y)) Pass) w) (sym said) (ap (λ m. ToOperator (DoRepeat a m)) same, refl, record { says = λ v s more. refl }))
+module _ (w : World) (a i : PyObjectRef) (n : Option ℤ) (y z : ℤ) (same : y ≡ z) (read : (t : Reading) → number_of (datum_at (plain t w) i) ≡ n) (counts : Counts n z) where
+  counted : (task : ℤ → PlainTask) (t : Reading) → counted_rest (plain t w) task (value i) [] ≡ Asks (plain t w) [] (task y)
+  counted task t =
+      let u = plain t w in
+      let go = λ (m : ℤ) (told : Told). pass u (task m) in
+      ap (λ m. within_index u RepeatTooLong m go []) (read t) ∙ counts u go [] ∙ ap (λ m. pass u (task m)) (sym same)
 
-pub inplace-times-asks : (w : World) (a i : PyObjectRef) (n : Option ℤ) (y z : ℤ) → y ≡ z → ((t : Reading) → number_of (datum_at (plain t w) i) ≡ n) → Counts n z → Resumes (InplaceTimes a) (Ok (Value i)) w w (Ask (task.Operator (operator.InplaceRepeat a y)) Pass)
-unfolding operator_say
-inplace-times-asks w a i n y z same read counts = λ t r.
-    let u = plain t w in
-    let p = operator_stands t (InplaceTimes a) in
-    let go = λ (m : ℤ) (told : Told). pass u (ToOperator (DoInplaceRepeat a m)) in
-    let said = ap (λ m. within_index u RepeatTooLong m go []) (read t) ∙ counts u go [] in
-    (r, subst (λ s. Steps operator_say (operator_stands t) t p.task (p.told ++ Answered (value i) ∷ []) s (Ask (task.Operator (operator.InplaceRepeat a y)) Pass) w) (sym said) (ap (λ m. ToOperator (DoInplaceRepeat a m)) same, refl, record { says = λ v s more. refl }))
+  pub times-asks : Resumes (Times a) (Ok (Value i)) w w (Ask (task.Operator (operator.Repeat a y)) Pass)
+  times-asks =
+      let often = λ (m : ℤ). ToOperator (DoRepeat a m) in
+      asks-follow operator_group (λ t. operator_stands t (Times a) (value i)) (λ t u. counted_rest u often (value i) []) w w [] (task.Operator (operator.Repeat a y)) Pass (λ t q. (q, counted often t)) (λ t u r more. refl)
+
+  pub inplace-times-asks : Resumes (InplaceTimes a) (Ok (Value i)) w w (Ask (task.Operator (operator.InplaceRepeat a y)) Pass)
+  inplace-times-asks =
+      let often = λ (m : ℤ). ToOperator (DoInplaceRepeat a m) in
+      asks-follow operator_group (λ t. operator_stands t (InplaceTimes a) (value i)) (λ t u. counted_rest u often (value i) []) w w [] (task.Operator (operator.InplaceRepeat a y)) Pass (λ t q. (q, counted often t)) (λ t u r more. refl)

@@ -3,18 +3,17 @@ pub use Rattle.class_model.specs.Class.{is_sub}
 pub use Rattle.class_world.specs.Claims.{Leaves, of_args, of_compare_task, of_ended, of_operator_task, of_step, of_task}
 pub use Rattle.class_world.specs.Held.{Held}
 pub use Rattle.class_world.specs.Reading.{Reading, Reads, bindings, compare_job, ended_of, operator_job, plain, task_of}
-pub use Rattle.class_world.specs.Rows.{EndsAs, Goes, Group, LeavesEnd}
+pub use Rattle.class_world.specs.Rows.{EndsAs, LeavesEnd}
 pub use Rattle.class_world.specs.Sound.{AllHold, AreNodes, Claim, Grows, Holding, Holds, IsNode, of_option}
 pub use Rattle.class_world.specs.declared.world.World.{World}
 pub use Rattle.plain_machine.specs.Args.{two_of}
 pub use Rattle.plain_machine.specs.Known.{the_int, the_tuple}
 pub use Rattle.plain_machine.specs.Native.{native_task}
 pub use Rattle.plain_machine.specs.Objects.{special_at}
-pub use Rattle.plain_machine.specs.Plain.{AList, ANumber, ATuple, Answered, AsMaybe, AsTruth, AsValue, Asks, Bindings, Chose, CompareJob, Datum, DoAdd, DoBinOp1, DoBinary, DoBoolEq, DoCmp, DoCompare, DoConcat, DoEnter, DoEnterPower, DoIdEq, DoIndex, DoInplace, DoInplaceAdd, DoInplaceConcat, DoInplaceMul, DoInplaceOp1, DoInplacePower, DoInplaceRepeat, DoInt, DoIsTrue, DoMul, DoNativeRepeat, DoPower, DoRepeat, DoRichBool, DoSeqGt, DoSeqLt, DoSpecial, DoUnary, Ended, Ends, OperatorJob, PlainTask, PlainWorld, Read, ReadObjects, Said, ToAttribute, ToCompare, ToNative, ToOperator, ToProtocol, Told}
+pub use Rattle.plain_machine.specs.Plain.{AList, ANumber, ATuple, AsMaybe, AsTruth, AsValue, Asks, Bindings, Chose, CompareJob, Datum, DoAdd, DoBinOp1, DoBinary, DoBoolEq, DoCmp, DoCompare, DoConcat, DoEnter, DoEnterPower, DoIdEq, DoIndex, DoInplace, DoInplaceAdd, DoInplaceConcat, DoInplaceMul, DoInplaceOp1, DoInplacePower, DoInplaceRepeat, DoInt, DoIsTrue, DoMul, DoNativeRepeat, DoPower, DoRepeat, DoRichBool, DoSeqGt, DoSeqLt, DoSpecial, DoUnary, Ended, Ends, OperatorJob, PlainTask, PlainWorld, ReadObjects, Said, ToAttribute, ToCompare, ToNative, ToOperator, ToProtocol, Told}
 pub use Rattle.plain_machine.specs.Row.{Row, ask, choose, elsewhere, end, fault, fits, fork, is_not_implemented, make, most_items, not_implemented, on_truth, on_value, or_else, pass, read_once, start, truth, value, within_index}
-pub use Rattle.plain_machine.specs.Rows.{Pending, fresh}
 pub use Rattle.plain_machine.specs.Takes.{with_one, with_three, with_two}
-pub use Rattle.plain_machine.specs.World.{candidates_at, class_at, datum_at, goes_first_at, next_node, number_of, ref, slot_at, with_node}
+pub use Rattle.plain_machine.specs.World.{candidates_at, class_at, datum_at, goes_first_at, next_node, number_of, slot_at, with_node}
 pub use Rattle.py_node.specs.BuiltIns.{fixed_false, fixed_none, fixed_not_implemented, fixed_true}
 pub use Rattle.py_node.specs.Known.{known_text}
 pub use Rattle.py_node.specs.Natives.{is_same_entry}
@@ -45,7 +44,6 @@ pub use Rattle.py_node.specs.declared.task.OperatorTask.{OperatorTask}
 pub use Rattle.py_node.specs.declared.task.PyComparisonOp.{PyComparisonOp}
 pub use Rattle.py_node.specs.declared.task.PyComparisonOp.TheVariants.{Eq, Ge, Gt, Le, Lt, Ne}
 pub use Rattle.py_node.specs.declared.task.PyNumberBinaryOp.{PyNumberBinaryOp}
-pub use Rattle.py_node.specs.declared.task.PyNumberBinaryOp.TheVariants.{Add}
 pub use Rattle.py_node.specs.declared.task.PyNumberUnaryOp.{PyNumberUnaryOp}
 pub use Rattle.py_node.specs.declared.task.PyNumberUnaryOp.TheVariants.{Absolute, Invert, Negative, Positive}
 pub use Rattle.py_node.specs.declared.task.Step.{Step}
@@ -53,6 +51,7 @@ pub use Rattle.py_node.specs.declared.task.Task.{Task}
 pub use Rattle.row_kit.specs.Asking.{as_said, with_read}
 pub use Rattle.row_kit.specs.GiveContainers.{tuple_made}
 pub use Rattle.row_kit.specs.IntValues.{as_int, is_zero, number_hash, truth_of}
+pub use Rattle.row_kit.specs.Points.{Goes, Group, Point}
 pub use Rattle.row_kit.specs.Repeats.{list_repeated, native_repeat, on_count, sequence_for, times, with_times}
 pub use Rattle.row_kit.specs.Say.{in_range, int_made, number_told, numbers_of, text_made, with_lone_number, with_number_and, with_numbers}
 pub use Rattle.std.specs.Fmt.{signed_decimal}

@@ -1,5 +1,5 @@
 -- What the rows of powers say, which have a third operand: a modulus, or None.
-use Rattle.proto_ops.specs.Below.{ℕ, zero, suc, Bool, false, cond, eqb, not, length, List, [], Option, Some, None, list_any, PyObjectRef, UnsupportedOperand, Power, RightPower, InplacePower, SlotEntry, Native, Wrapper, Unhashable, fixed_none, is_same_entry, is_reflected, is_sub, PlainWorld, DoEnter, DoEnterPower, DoPower, ToOperator, Ended, Said, Asks, Ends, Chose, class_at, slot_at, candidates_at, goes_first_at, native_task, Row, start, fork, ask, pass, end, fault, elsewhere, or_else, choose, read_once}
+use Rattle.proto_ops.specs.Below.{ℕ, zero, suc, cond, eqb, not, length, List, [], Option, Some, None, list_any, PyObjectRef, UnsupportedOperand, Power, RightPower, InplacePower, SlotEntry, Native, Wrapper, Unhashable, fixed_none, is_same_entry, is_reflected, PlainWorld, DoEnter, DoEnterPower, DoPower, ToOperator, Ended, Said, Asks, Ends, Chose, class_at, slot_at, candidates_at, goes_first_at, native_task, Row, start, fork, ask, pass, end, fault, elsewhere, or_else, choose, read_once}
 use Rattle.std.specs.Prelude.{◌&&◌, ◌==◌, ◌∷◌}
 use Rattle.proto_ops.specs.Binary.{enter_method, unsupported}
 

@@ -1,14 +1,17 @@
 -- What the contracts of the rows of operators say.
-use Rattle.proto_ops.specs.Below.{ℕ, pos, Bool, false, cond, List, [], Result, Option, Some, None, Ok, Raised as Fault, PyObjectRef, SlotEntry, Unhashable, Answer, Value, OperatorTask, Add, Step, OperatorJob, DoAdd, DoInplaceAdd, DoBinOp1, DoBinary, DoInplaceOp1, DoConcat, DoMul, DoInplaceMul, DoRepeat, DoPower, DoInplacePower, DoEnter, DoInt, AsValue, Ended, Answered, Chose, Read, Told, ref, value, not_implemented, is_not_implemented, Pending, fresh, World, Reading, operator_job, Group, Goes, Claim, IsNode}
+use Rattle.proto_ops.specs.Below.{ℕ, Bool, false, cond, List, [], Result, Option, Some, None, Ok, Raised as Fault, NotConcatenable, NotRepeatable, PyObjectRef, SeqItem, SlotEntry, Answer, Value, OperatorTask, Step, DoBinOp1, DoConcat, DoInplaceConcat, DoRepeat, DoInplaceRepeat, DoPower, DoInt, ToOperator, AsValue, Ended, PlainWorld, Row, slot_at, start, pass, end, fault, or_else, not_implemented, is_not_implemented, World, Reading, operator_job, Goes, Group, Point, Claim, IsNode}
 use Rattle.std.specs.Prelude.{◌∷◌}
-use Rattle.class_world.specs.Rows as rows
+use Rattle.row_kit.specs.Points as points
 use Rattle.py_node.specs.declared.entry.IntNative.TheVariants as int
 use Rattle.proto_ops.specs.declared.OperatorKept.{OperatorKept}
 use Rattle.proto_ops.specs.declared.OperatorKept.TheVariants.{Pass, OrElse, Times, InplaceTimes}
 use Rattle.proto_ops.specs.declared.Otherwise.{Otherwise}
 use Rattle.proto_ops.specs.declared.Otherwise.TheVariants as otherwise
 use Rattle.proto_ops.specs.declared.powers.Tried.{Tried}
+use Rattle.proto_ops.specs.Binary.{in_turn, unsupported}
+use Rattle.proto_ops.specs.Powers.{power_in_turn}
 use Rattle.proto_ops.specs.Say.{operator_say}
+use Rattle.proto_ops.specs.Sequences.{counted_rest, joined, repeated}
 
 -- what is left to try
 abbrev pub left_over : Option SlotEntry → List SlotEntry
@@ -22,33 +25,27 @@ entries_of p = p.first ∷ left_over p.second
 abbrev pub way_of : Bool → ℕ
 way_of third = cond third 1 0
 
--- what the first of two candidates has answered
-abbrev pub first_of_two : Option SlotEntry → Told
-first_of_two None = []
-first_of_two (Some s) = Answered (value not_implemented) ∷ []
+-- what a row does where an answer is not for its operands
+abbrev pub otherwise_row : Otherwise → PlainWorld → Row
+otherwise_row otherwise.Unsupported w = unsupported w
+otherwise_row (otherwise.Candidate next a b) w = in_turn w a b (left_over next)
+otherwise_row (otherwise.Operator op a b) w = start (pass w (ToOperator (DoBinOp1 op a b))) (end w)
+otherwise_row (otherwise.Join a b) w = start (joined w (slot_at w a SeqItem) (ToOperator (DoConcat a b))) (end w)
+otherwise_row (otherwise.InplaceJoin a b) w = start (joined w (slot_at w a SeqItem) (ToOperator (DoInplaceConcat a b))) (end w)
+otherwise_row otherwise.NotConcatenable w = end w (fault NotConcatenable)
+otherwise_row (otherwise.RepeatOne a b) w = repeated w (λ z. ToOperator (DoRepeat a z)) (λ z. ToOperator (DoRepeat b z)) a b
+otherwise_row (otherwise.InplaceRepeatOne a b) w = repeated w (λ z. ToOperator (DoInplaceRepeat a z)) (λ z. ToOperator (DoRepeat b z)) a b
+otherwise_row otherwise.NotRepeatable w = end w (fault NotRepeatable)
+otherwise_row (otherwise.PowerFirst p a b c) w = power_in_turn w a b c (way_of p.third) (entries_of p) (left_over p.second)
+otherwise_row (otherwise.PowerLast p a b c) w = power_in_turn w a b c (way_of p.third) (entries_of p) []
+otherwise_row (otherwise.Power a b c) w = start (pass w (ToOperator (DoPower a b c))) (end w)
 
--- the row that waits for an answer that may be not for its operands
-abbrev pub otherwise_stands : Otherwise → Pending OperatorJob
-otherwise_stands otherwise.Unsupported = record { task = DoBinary Add (ref 0) (ref 0); told = [] }
-otherwise_stands (otherwise.Candidate next a b) = record { task = DoBinOp1 Add a b; told = Read (Unhashable ∷ left_over next) ∷ [] }
-otherwise_stands (otherwise.Operator op a b) = record { task = DoInplaceOp1 op a b; told = Chose 1 ∷ [] }
-otherwise_stands (otherwise.Join a b) = record { task = DoAdd a b; told = [] }
-otherwise_stands (otherwise.InplaceJoin a b) = record { task = DoInplaceAdd a b; told = [] }
-otherwise_stands otherwise.NotConcatenable = record { task = DoConcat (ref 0) (ref 0); told = Chose 1 ∷ [] }
-otherwise_stands (otherwise.RepeatOne a b) = record { task = DoMul a b; told = [] }
-otherwise_stands (otherwise.InplaceRepeatOne a b) = record { task = DoInplaceMul a b; told = [] }
-otherwise_stands otherwise.NotRepeatable = record { task = DoRepeat (ref 0) (pos 0); told = Chose 1 ∷ [] }
-otherwise_stands (otherwise.PowerFirst p a b c) = record { task = DoPower a b c; told = Chose (way_of p.third) ∷ (Read (entries_of p) ∷ []) }
-otherwise_stands (otherwise.PowerLast p a b c) =
-    record { task = DoPower a b c; told = Chose (way_of p.third) ∷ (Read (entries_of p) ∷ first_of_two p.second) }
-otherwise_stands (otherwise.Power a b c) = record { task = DoInplacePower a b c; told = Chose 1 ∷ [] }
-
--- the row that goes on, at each answer, just as the row that the code keeps this for
-abbrev pub operator_stands : Reading → OperatorKept → Pending OperatorJob
-operator_stands t Pass = record { task = DoEnter Unhashable (ref 0) (ref 0); told = [] }
-operator_stands t (OrElse rest) = otherwise_stands rest
-operator_stands t (Times a) = record { task = DoMul a (ref 0); told = Answered (value not_implemented) ∷ (Chose 0 ∷ []) }
-operator_stands t (InplaceTimes a) = record { task = DoInplaceMul a (ref 0); told = Answered (value not_implemented) ∷ (Chose 0 ∷ []) }
+-- what is done with the answer where this is kept
+abbrev pub operator_stands : Reading → OperatorKept → Ended → Point
+operator_stands t Pass r w = end w r
+operator_stands t (OrElse rest) r w = or_else w r (otherwise_row rest w)
+operator_stands t (Times a) r w = counted_rest w (λ z. ToOperator (DoRepeat a z)) r
+operator_stands t (InplaceTimes a) r w = counted_rest w (λ z. ToOperator (DoInplaceRepeat a z)) r
 
 -- what is said of what is kept
 abbrev pub of_otherwise : Otherwise → List Claim
@@ -71,15 +68,15 @@ of_operator_kept (OrElse rest) = of_otherwise rest
 of_operator_kept (Times a) = IsNode a ∷ []
 of_operator_kept (InplaceTimes a) = IsNode a ∷ []
 
--- the group: its jobs, what they say, what goes on, and what is claimed of that
-abbrev pub operator_group : Group OperatorTask OperatorJob OperatorKept
-operator_group = record { job = operator_job; say = operator_say; stands = operator_stands; claims = of_operator_kept }
+-- the group: the row of a task, and what is done with an answer
+abbrev pub operator_group : Group OperatorTask OperatorKept
+operator_group = record { row = λ t task w. operator_say w (operator_job t task); stands = operator_stands }
 
 abbrev pub Begins : OperatorTask → World → World → Step OperatorKept → Type 0
-Begins = rows.Begins operator_group
+Begins = points.Begins operator_group
 
 abbrev pub Resumes : OperatorKept → Result Answer Fault → World → World → Step OperatorKept → Type 0
-Resumes = rows.Resumes operator_group
+Resumes = points.Resumes operator_group
 
 -- whether an answer says that what was asked is not for its operands
 abbrev pub is_unserved : Ended → Bool
@@ -92,4 +89,4 @@ GoesOn rest = Resumes (OrElse rest) (Ok (Value not_implemented))
 
 -- the sum of two objects
 abbrev pub Sums : PyObjectRef → PyObjectRef → World → World → Step OperatorKept → Type 0
-Sums a b = Goes operator_say operator_stands (λ t. fresh (DoInt int.Add (a ∷ b ∷ []) []))
+Sums a b = Goes operator_group (λ t w. operator_say w (DoInt int.Add (a ∷ b ∷ []) []))

@@ -50,9 +50,13 @@ repeated_by w None None a b = Ends w (fault UnsupportedOperand)
 repeated_by w None (Some s) a b = Asks w (Chose 1 ∷ []) (ToProtocol (DoIndex a))
 repeated_by w (Some s) r a b = Asks w (Chose 0 ∷ []) (ToProtocol (DoIndex b))
 
+-- so often as an index says
+abbrev pub counted_rest : PlainWorld → (ℤ → PlainTask) → Ended → Row
+counted_rest w task r = start (on_count w r (λ z told. pass w (task z)) []) (end w)
+
 abbrev pub repeated_rest : PlainWorld → (ℤ → PlainTask) → (ℤ → PlainTask) → ℕ → Ended → Row
-repeated_rest w left right zero r = start (on_count w r (λ z told. pass w (left z)) []) (end w)
-repeated_rest w left right (suc n) r = start (on_count w r (λ z told. pass w (right z)) []) (end w)
+repeated_rest w left right zero r = counted_rest w left r
+repeated_rest w left right (suc n) r = counted_rest w right r
 
 abbrev pub repeated : PlainWorld → (ℤ → PlainTask) → (ℤ → PlainTask) → PyObjectRef → PyObjectRef → Row
 repeated w left right a b = fork (repeated_by w (slot_at w a SeqItem) (slot_at w b SeqItem) a b) (repeated_rest w left right)

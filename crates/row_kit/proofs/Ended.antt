@@ -2,14 +2,8 @@
 use Rattle.py_node.specs.Stops.{Ended, IfRaised, sorted}
 use Rattle.py_node.specs.declared.stop.Stop.{Stop}
 use Rattle.py_node.specs.declared.stop.Stop.TheVariants as stop
-use Rattle.row_kit.proofs.Below.{Ok, Err, IfOk, refl, sym, subst, ◌∙◌, Result, Raised as Fault, Answer, End, PlainWorld, Said, Saying, Pending, World, Reading, Reads, plain, EndsAs, Follows, Goes, Steps}
+use Rattle.row_kit.proofs.Below.{Ok, Err, IfOk, subst, Result, Raised as Fault}
 use Rattle.std.proofs.Common.{◌≡◌}
-
--- what a native ends with, a row ends with that does as the native does
-pub ends-follow : {J K : Type 0} (say : Saying J) (stands : Reading → K → Pending J) (p : Reading → Pending J) (said : Reading → PlainWorld → Said) (old new : World) (r : Result Answer Fault) → EndsAs said old new r → Follows say stands p said old new (End r)
-ends-follow say stands p said old new r h = λ t q.
-    let k = h t q in
-    (k.0, subst (λ s. Steps say (stands t) t (p t).task (p t).told s (End r) new) (sym k.1) (refl, refl))
 
 -- what follows of each end, follows of how something ended
 pub ended-map : {A : Type 0} (P Q : Result A Fault → Type 0) (r : Result A Stop) → ((x : Result A Fault) → P x → Q x) → Ended r P → Ended r Q
@@ -39,9 +33,3 @@ sorted_raised (Err stop.OutOfMemory) x P e h = cc
 pub stop_ends : (A : Type 0) {B : Type 0} (e : Stop) (Q : Fault → Type 0) (P : Result B Fault → Type 0) → ((x : Fault) → Q x → P (Err x)) → IfRaised {T = A} (Err e) Q → Ended {T = B} (Err e) P
 stop_ends A (stop.Raised x) Q P f h = f x h
 stop_ends A stop.OutOfMemory Q P f h = tt
-
--- a row ends with what was caught, where the native that it called ends so
-pub caught_goes : {J K : Type 0} (say : Saying J) (stands : Reading → K → Pending J) (p : Reading → Pending J) (said : Reading → PlainWorld → Said) (old new : World) (res : Result Answer Stop) (r : Result Answer Fault) → Ok r ≡ sorted res → Ended res (EndsAs said old new) → ((t : Reading) → Reads t old → say (plain t old) (p t).task (p t).told ≡ said t (plain t old)) → Goes say stands p old new (End r)
-caught_goes say stands p said old new res r e h same = λ t q.
-    let k = sorted_ends res r (EndsAs said old new) e h t q in
-    (k.0, subst (λ s. Steps say (stands t) t (p t).task (p t).told s (End r) new) (sym (same t k.0 ∙ k.1)) (refl, refl))

@@ -1,6 +1,7 @@
 pub mod Lemmas
 pub mod Below
 pub mod Ended
+pub mod Points
 pub mod Fits
 pub mod Made
 pub mod ObjectsEnded

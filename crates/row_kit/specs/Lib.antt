@@ -1,4 +1,5 @@
 pub mod Below
+pub mod Points
 pub mod Say
 pub mod Repeats
 pub mod Called

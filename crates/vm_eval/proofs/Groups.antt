@@ -1,147 +1,84 @@
 -- What a group's row says is what the row says among all.
-use Rattle.vm_eval.proofs.Below.{[], sym, ap, subst, ◌∙◌, refl, Result, Raised as Fault, PyObjectRef, Answer, Step, Ask, End, PlainWorld, PlainTask, ToEval, ToAttribute, ToDescriptor, ToCall, ToClass, ToOperator, ToCompare, ToProtocol, ToObject, ProtocolJob, Answered, Told, Said, Asks, Ends, Saying, Pending, Alike, fresh, given, World, Reading, plain, ended_of, Steps, Goes, eval_say, eval_stands, attribute_say, attribute_stands, descriptor_say, descriptor_stands, call_job_say, call_stands, class_job_say, class_stands, operator_say, operator_stands, compare_job_say, compare_stands, number_job_say, NumberKept, Pass, AfterBool, AfterLength, AfterIndex, AfterInt, AfterTruncate, AfterIndexOf, AfterLen, Measured, Expected, Called, number_stands, iter_job_say, IterKept, Search, iter_stands, search_job, items_job_say, ItemsKept, items_stands, object_job_say, object_stands, native_job_say, natives_stands, Kept, ForEval, ForAttribute, ForDescriptor, ForCall, ForClass, ForOperator, ForCompare, ForNumber, ForIteration, ForItems, ForObject, ForNative, Branch, say, stands, among, step_among, by_branch, branch_of, to_native, Resumes}
-use Rattle.std.proofs.Common.{◌≡◌, ◌∷◌, ◌++◌}
-use Rattle.proto_object.specs.declared.proto_iter.IterKept.TheVariants as iter
-use Rattle.proto_object.specs.declared.proto_iter.seek.Search.TheVariants as search
-use Rattle.proto_object.specs.declared.proto_items.ItemsKept.TheVariants as items
+use Rattle.vm_eval.proofs.Below.{ap, refl, subst, sym, Result, Raised as Fault, Answer, Step, PlainWorld, PlainTask, ToEval, ToAttribute, ToDescriptor, ToCall, ToClass, ToOperator, ToCompare, ToProtocol, ToObject, Ended, Told, World, Reading, ended_of, eval_job, attribute_job, descriptor_job, call_job, class_job, operator_job, compare_job, object_job, protocol_job, eval_group, attribute_group, descriptor_group, call_group, class_group, operator_group, compare_group, number_group, iter_group, items_group, object_group, natives_group, Kept, ForEval, ForAttribute, ForDescriptor, ForCall, ForClass, ForOperator, ForCompare, ForNumber, ForIteration, ForItems, ForObject, ForNative, Branch, say, stands, machine_group, step_among, by_branch, branch_of, to_native, Resumes, Group, goes-among}
+use Rattle.std.proofs.Common.{◌≡◌}
+use Rattle.py_node.specs.declared.protocol.ProtocolTask.{ProtocolTask}
+use Rattle.row_kit.specs.Points as points
 use Rattle.vm_eval.specs.declared.protocols.Branch.TheVariants as branch
 
--- a group of rows, among all: it is for its own jobs
-pub record Among {J K : Type 0} (group : Saying J) (held : Reading → K → Pending J) (to : J → PlainTask) (for : K → Kept) (own : J → Type 0) : Type 0 where
-  says : (w : PlainWorld) (j : J) (told : Told) → own j → say w (to j) told ≡ group w j told
-  keeps : (t : Reading) (k : K) → stands t (for k) ≡ among to (held t k)
-  owns : (t : Reading) (k : K) → own (held t k).task
+-- a group of rows, among all: it is for its own tasks
+pub record Among {T K : Type 0} (g : Group T K) (job : Reading → T → PlainTask) (for : K → Kept) (own : T → Type 0) : Type 0 where
+  says : (t : Reading) (task : T) → own task → (u : PlainWorld) (more : Told) → say u (job t task) more ≡ g.row t task u more
+  keeps : (t : Reading) (k : K) (r : Ended) (u : PlainWorld) (more : Told) → stands t (for k) r u more ≡ g.stands t k r u more
 
-module _ {J K : Type 0} (group : Saying J) (held : Reading → K → Pending J) (to : J → PlainTask) (for : K → Kept) (own : J → Type 0) (g : Among group held to for own) where
-  alike-among : (p q : Pending J) → own p.task → own q.task → Alike group p q → Alike say (among to p) (among to q)
-  alike-among p q i j a = record { says = λ w r more. g.says w p.task (p.told ++ Answered r ∷ more) i ∙ a.says w r more ∙ sym (g.says w q.task (q.told ++ Answered r ∷ more) j) }
-
-  steps-among : (t : Reading) (j : J) (told : Told) (said : Said) (step : Step K) (new : World) → own j → Steps group (held t) t j told said step new → Steps say (stands t) t (to j) told said (step_among for step) new
-  steps-among t j told (Asks w learnt other) (Ask asked kept) new i h =
-      (h.0, h.1, subst (λ q. Alike say (record { task = to j; told = told ++ learnt }) q) (sym (g.keeps t kept)) (alike-among (record { task = j; told = told ++ learnt }) (held t kept) i (g.owns t kept) h.2))
-  steps-among t j told (Asks w learnt other) (End r) new i h = h
-  steps-among t j told (Ends w r) (Ask asked kept) new i h = h
-  steps-among t j told (Ends w r) (End s) new i h = h
-
-  goes-among : (p : Reading → Pending J) (old new : World) (step : Step K) → ((t : Reading) → own (p t).task) → Goes group held p old new step → Goes say stands (λ t. among to (p t)) old new (step_among for step)
-  goes-among p old new step i h = λ t reads. (
-    (h t reads).0,
-    subst (λ said. Steps say (stands t) t (to (p t).task) (p t).told said (step_among for step) new) (sym (g.says (plain t old) (p t).task (p t).told (i t)))
-        (steps-among t (p t).task (p t).told (group (plain t old) (p t).task (p t).told) step new (i t) (h t reads).1),
-  )
-
-  kept-among : (kept : K) (r : Result Answer Fault) (old new : World) (step : Step K) → Goes group held (λ t. given (held t kept) (ended_of r)) old new step → Goes say stands (λ t. given (stands t (for kept)) (ended_of r)) old new (step_among for step)
-  kept-among kept r old new step h = λ t reads.
-      let all = goes-among (λ t. given (held t kept) (ended_of r)) old new step (λ t. g.owns t kept) h t reads in (
-        all.0,
-        subst (λ (q : Pending PlainTask). Steps say (stands t) t q.task (q.told ++ Answered (ended_of r) ∷ []) (say (plain t old) q.task (q.told ++ Answered (ended_of r) ∷ [])) (step_among for step) new) (sym (g.keeps t kept)) all.1,
-      )
-
+module _ {T K : Type 0} {g : Group T K} {job : Reading → T → PlainTask} {for : K → Kept} {own : T → Type 0} (a : Among g job for own) where
   -- a task of the group begins so among all
-  pub begins-among : (job : Reading → J) (old new : World) (step : Step K) (next : Step Kept) → ((t : Reading) → own (job t)) → next ≡ step_among for step → Goes group held (λ t. fresh (job t)) old new step → Goes say stands (λ t. fresh (to (job t))) old new next
-  begins-among job old new step next i same h = subst (Goes say stands (λ t. fresh (to (job t))) old new) (sym same) (goes-among (λ t. fresh (job t)) old new step i h)
+  pub begins-among : (task : T) (old new : World) (step : Step K) (next : Step Kept) → own task → next ≡ step_among for step → points.Begins g task old new step → points.Goes machine_group (λ t u. say u (job t task)) old new next
+  begins-among task old new step next is same h =
+      subst (points.Goes machine_group (λ t u. say u (job t task)) old new) (sym same)
+      (goes-among g machine_group for a.keeps (λ t. g.row t task) (λ t u. say u (job t task)) (λ t. a.says t task is) old new step h)
 
   -- and what is kept of it goes on so
-  pub resumes-among : (full : Kept) (kept : K) (r : Result Answer Fault) (old new : World) (step : Step K) (next : Step Kept) → full ≡ for kept → next ≡ step_among for step → Goes group held (λ t. given (held t kept) (ended_of r)) old new step → Resumes full r old new next
+  pub resumes-among : (full : Kept) (kept : K) (r : Result Answer Fault) (old new : World) (step : Step K) (next : Step Kept) → full ≡ for kept → next ≡ step_among for step → points.Resumes g kept r old new step → Resumes full r old new next
   resumes-among full kept r old new step next is same h =
-      subst (λ full. Resumes full r old new next) (sym is) (subst (Resumes (for kept) r old new) (sym same) (kept-among kept r old new step h))
+      subst (λ full. Resumes full r old new next) (sym is) (subst (Resumes (for kept) r old new) (sym same)
+      (goes-among g machine_group for a.keeps (λ t. g.stands t kept (ended_of r)) (λ t. stands t (for kept) (ended_of r)) (λ t. a.keeps t kept (ended_of r)) old new step h))
 
--- most groups are for all their jobs
-abbrev pub Any : {J : Type 0} → J → Type 0
-Any j = Unit {0}
+-- most groups are for all their tasks
+abbrev pub Any : {T : Type 0} → T → Type 0
+Any task = Unit {0}
 
-pub eval-group : Among eval_say eval_stands ToEval ForEval Any
+pub eval-among : Among eval_group (λ t task. ToEval (eval_job t task)) ForEval Any
 unfolding say stands
-eval-group = record { says = λ w j told own. refl; keeps = λ t k. refl; owns = λ t k. tt }
+eval-among = record { says = λ t task own u more. refl; keeps = λ t k r u more. refl }
 
-pub attribute-group : Among attribute_say attribute_stands ToAttribute ForAttribute Any
+pub attribute-among : Among attribute_group (λ t task. ToAttribute (attribute_job t task)) ForAttribute Any
 unfolding say stands
-attribute-group = record { says = λ w j told own. refl; keeps = λ t k. refl; owns = λ t k. tt }
+attribute-among = record { says = λ t task own u more. refl; keeps = λ t k r u more. refl }
 
-pub descriptor-group : Among descriptor_say descriptor_stands ToDescriptor ForDescriptor Any
+pub descriptor-among : Among descriptor_group (λ t task. ToDescriptor (descriptor_job t task)) ForDescriptor Any
 unfolding say stands
-descriptor-group = record { says = λ w j told own. refl; keeps = λ t k. refl; owns = λ t k. tt }
+descriptor-among = record { says = λ t task own u more. refl; keeps = λ t k r u more. refl }
 
-pub call-group : Among call_job_say call_stands ToCall ForCall Any
+pub call-among : Among call_group (λ t task. ToCall (call_job t task)) ForCall Any
 unfolding say stands
-call-group = record { says = λ w j told own. refl; keeps = λ t k. refl; owns = λ t k. tt }
+call-among = record { says = λ t task own u more. refl; keeps = λ t k r u more. refl }
 
-pub class-group : Among class_job_say class_stands ToClass ForClass Any
+pub class-among : Among class_group (λ t task. ToClass (class_job t task)) ForClass Any
 unfolding say stands
-class-group = record { says = λ w j told own. refl; keeps = λ t k. refl; owns = λ t k. tt }
+class-among = record { says = λ t task own u more. refl; keeps = λ t k r u more. refl }
 
-pub operator-group : Among operator_say operator_stands ToOperator ForOperator Any
+pub operator-among : Among operator_group (λ t task. ToOperator (operator_job t task)) ForOperator Any
 unfolding say stands
-operator-group = record { says = λ w j told own. refl; keeps = λ t k. refl; owns = λ t k. tt }
+operator-among = record { says = λ t task own u more. refl; keeps = λ t k r u more. refl }
 
-pub compare-group : Among compare_job_say compare_stands ToCompare ForCompare Any
+pub compare-among : Among compare_group (λ t task. ToCompare (compare_job task)) ForCompare Any
 unfolding say stands
-compare-group = record { says = λ w j told own. refl; keeps = λ t k. refl; owns = λ t k. tt }
+compare-among = record { says = λ t task own u more. refl; keeps = λ t k r u more. refl }
 
-pub object-group : Among object_job_say object_stands ToObject ForObject Any
+pub object-among : Among object_group (λ t task. ToObject (object_job task)) ForObject Any
 unfolding say stands
-object-group = record { says = λ w j told own. refl; keeps = λ t k. refl; owns = λ t k. tt }
+object-among = record { says = λ t task own u more. refl; keeps = λ t k r u more. refl }
 
-pub native-group : Among native_job_say natives_stands to_native ForNative Any
+pub native-among : Among natives_group (λ t job. to_native (job t)) ForNative Any
 unfolding say stands
-native-group = record { says = λ w j told own. refl; keeps = λ t k. refl; owns = λ t k. tt }
+native-among = record { says = λ t task own u more. refl; keeps = λ t k r u more. refl }
 
--- the jobs of a branch
-abbrev pub On : Branch → ProtocolJob → Type 0
-On b job = branch_of job ≡ b
+-- the tasks of a branch
+abbrev pub On : Branch → ProtocolTask → Type 0
+On b task = branch_of (protocol_job task) ≡ b
 
-protocol-says : (b : Branch) (w : PlainWorld) (job : ProtocolJob) (told : Told) → branch_of job ≡ b → say w (ToProtocol job) told ≡ by_branch w b job told
+protocol-says : (b : Branch) (task : ProtocolTask) → On b task → (u : PlainWorld) (more : Told) → say u (ToProtocol (protocol_job task)) more ≡ by_branch u b (protocol_job task) more
 unfolding say
-protocol-says b w job told is = ap (λ b. by_branch w b job told) is
+protocol-says b task is u more = ap (λ b. by_branch u b (protocol_job task) more) is
 
-number-owns : (t : Reading) (k : NumberKept) → On branch.Numbers (number_stands t k).task
-number-owns t Pass = refl
-number-owns t AfterBool = refl
-number-owns t AfterLength = refl
-number-owns t AfterIndex = refl
-number-owns t AfterInt = refl
-number-owns t AfterTruncate = refl
-number-owns t AfterIndexOf = refl
-number-owns t AfterLen = refl
-number-owns t (Measured o d) = refl
-number-owns t (Expected d) = refl
-number-owns t (Called d) = refl
-
-search-owns : (s : Search) (x : PyObjectRef) → On branch.Iterations (search_job s x)
-search-owns search.Contains x = refl
-search-owns search.Count x = refl
-search-owns search.Find x = refl
-
-iter-owns : (t : Reading) (k : IterKept) → On branch.Iterations (iter_stands t k).task
-iter-owns t iter.Pass = refl
-iter-owns t iter.AfterIter = refl
-iter-owns t iter.AfterNext = refl
-iter-owns t iter.Beginning = refl
-iter-owns t (iter.Collecting it items) = refl
-iter-owns t iter.AfterNative = refl
-iter-owns t iter.AfterContains = refl
-iter-owns t (iter.Begun s x) = search-owns s x
-iter-owns t (iter.Next s) = search-owns s.search s.needle
-iter-owns t (iter.Equal s) = search-owns s.search s.needle
-
-items-owns : (t : Reading) (k : ItemsKept) → On branch.Items (items_stands t k).task
-items-owns t items.Pass = refl
-items-owns t (items.AfterIndex o) = refl
-items-owns t (items.AfterClass k) = refl
-items-owns t items.Ending = refl
-items-owns t items.Loaded = refl
-items-owns t items.Invoked = refl
-items-owns t items.Iterating = refl
-items-owns t (items.Gathering it rs) = refl
-
-pub number-group : Among number_job_say number_stands ToProtocol ForNumber (On branch.Numbers)
+pub number-among : Among number_group (λ t task. ToProtocol (protocol_job task)) ForNumber (On branch.Numbers)
 unfolding stands
-number-group = record { says = protocol-says branch.Numbers; keeps = λ t k. refl; owns = number-owns }
+number-among = record { says = λ t. protocol-says branch.Numbers; keeps = λ t k r u more. refl }
 
-pub iter-group : Among iter_job_say iter_stands ToProtocol ForIteration (On branch.Iterations)
+pub iter-among : Among iter_group (λ t task. ToProtocol (protocol_job task)) ForIteration (On branch.Iterations)
 unfolding stands
-iter-group = record { says = protocol-says branch.Iterations; keeps = λ t k. refl; owns = iter-owns }
+iter-among = record { says = λ t. protocol-says branch.Iterations; keeps = λ t k r u more. refl }
 
-pub items-group : Among items_job_say items_stands ToProtocol ForItems (On branch.Items)
+pub items-among : Among items_group (λ t task. ToProtocol (protocol_job task)) ForItems (On branch.Items)
 unfolding stands
-items-group = record { says = protocol-says branch.Items; keeps = λ t k. refl; owns = items-owns }
+items-among = record { says = λ t. protocol-says branch.Items; keeps = λ t k r u more. refl }

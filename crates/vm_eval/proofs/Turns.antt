@@ -1,84 +1,127 @@
 -- One turn of the machine keeps the outcome, whatever the rows are.
-use Rattle.vm_eval.proofs.Below.{ℕ, zero, suc, List, [], length, map, Ok, Err, IfOk, refl, subst, sym, ap, ◌∙◌, arith, zero-add, true, false, cond, nat_lt, lt-ltb, le-ltb, length-append, map-append, length-map, sum_by_push, DepthLimit, Raised as Fault, Answer, Task, Step, Ask, End, PlainWorld, PlainTask, Ended, Answered, Told, Said, Asks, Ends, fault, Over, NoUnits, Outcome, Out, carry, asked, step, reach, Pending, reach-is, reach-alike, World, Reading, Reads, plain, task_of, ended_of, Steps, of_task, LeavesOpen, each-pop, each-push, all-last, all-rest, lasts-on, Kept, say, stands, of_kept, bodies_in, Begins, Resumes, finish, unwind, coming, state, BeginsAt, IsOnItsWay, Reaches}
+use Rattle.vm_eval.proofs.Below.{ℕ, zero, suc, List, [], length, Ok, Err, IfOk, refl, subst, sym, ap, ◌∙◌, arith, zero-add, true, cond, nat_lt, lt-ltb, le-ltb, length-append, append_assoc, sum_by_push, DepthLimit, Raised as Fault, Answer, Task, Step, Ask, End, PlainWorld, PlainTask, Answered, Told, Said, Asks, Ends, fault, Over, NoUnits, Outcome, Out, asked, step, reach, Pending, reach-is, steps-on, World, Reading, Reads, plain, task_of, ended_of, Steps, of_task, LeavesOpen, each-pop, each-push, all-last, all-rest, lasts-on, Kept, say, stands, of_kept, bodies_in, Begins, Resumes, finish, unwind, coming, AllWait, Waits, WaitsAt, Comes, BeginsAt, IsOnItsWay, Reaches}
 use Rattle.std.proofs.Common.{◌≡◌, ◌+◌, ◌<◌, ◌≤◌, ◌∷◌, ◌++◌}
 use Rattle.std.specs.Prelude.{Result}
 use Rattle.vm_eval.specs.declared.stack.End.TheVariants as code
 
-unwind-append : (depth : ℕ) (ps : List (Pending PlainTask)) (p : Pending PlainTask) (o : Outcome) → unwind depth (ps ++ p ∷ []) o ≡ unwind depth ps (finish p (depth + length ps) o)
+unwind-append : (depth : ℕ) (ps : List Pending) (p : Pending) (o : Outcome) → unwind depth (ps ++ p ∷ []) o ≡ unwind depth ps (finish p (depth + length ps) o)
 unwind-append depth [] p o = let e : depth ≡ depth + 0 = omega arith in ap (λ n. finish p n o) e
 unwind-append depth (q ∷ ps) p o =
     let e : suc depth + length ps ≡ depth + suc (length ps) = omega arith in
     ap (finish q depth) (unwind-append (suc depth) ps p o ∙ ap (λ n. unwind (suc depth) ps (finish p n o)) e)
 
-unwind-push : (ps : List (Pending PlainTask)) (p : Pending PlainTask) (o : Outcome) → unwind 0 (ps ++ p ∷ []) o ≡ unwind 0 ps (finish p (length ps) o)
+unwind-push : (ps : List Pending) (p : Pending) (o : Outcome) → unwind 0 (ps ++ p ∷ []) o ≡ unwind 0 ps (finish p (length ps) o)
 unwind-push ps p o = unwind-append 0 ps p o ∙ ap (λ n. unwind 0 ps (finish p n o)) (zero-add (length ps))
 
-unwind-no_units : (depth : ℕ) (ps : List (Pending PlainTask)) (w : PlainWorld) (left : ℕ) → unwind depth ps (Out w NoUnits left) ≡ Out w NoUnits left
+unwind-no_units : (depth : ℕ) (ps : List Pending) (w : PlainWorld) (left : ℕ) → unwind depth ps (Out w NoUnits left) ≡ Out w NoUnits left
 unwind-no_units depth [] w left = refl
 unwind-no_units depth (p ∷ ps) w left = ap (finish p depth) (unwind-no_units (suc depth) ps w left)
 
-carry-like : (f g : PlainWorld → Ended → ℕ → Outcome) (o : Outcome) → ((w : PlainWorld) (r : Ended) (left : ℕ) → f w r left ≡ g w r left) → carry f o ≡ carry g o
-carry-like f g (Out w (Over r) left) k = k w r left
-carry-like f g (Out w NoUnits left) k = refl
+-- each frame has its row
+
+rows-length : (t : Reading) (stack : List Kept) (ps : List Pending) → AllWait t stack ps → length ps ≡ length stack
+rows-length t [] [] h = refl
+rows-length t (kept ∷ stack) (p ∷ ps) h = ap suc (rows-length t stack ps h.1)
+rows-length t [] (p ∷ ps) h = absurd h
+rows-length t (kept ∷ stack) [] h = absurd h
+
+rows-push : (t : Reading) (stack : List Kept) (ps : List Pending) (kept : Kept) (p : Pending) → AllWait t stack ps → Waits t kept p → AllWait t (stack ++ kept ∷ []) (ps ++ p ∷ [])
+rows-push t [] [] kept p h k = (k, tt)
+rows-push t (other ∷ stack) (q ∷ ps) kept p h k = (h.0, rows-push t stack ps kept p h.1 k)
+rows-push t [] (q ∷ ps) kept p h k = absurd h
+rows-push t (other ∷ stack) [] kept p h k = absurd h
+
+rows-pop : (t : Reading) (stack : List Kept) (ps : List Pending) (kept : Kept) → AllWait t (stack ++ kept ∷ []) ps → (qs : List Pending) × (q : Pending) × (ps ≡ qs ++ q ∷ []) × AllWait t stack qs × Waits t kept q
+rows-pop t [] (q ∷ []) kept h = ([], q, refl, tt, h.0)
+rows-pop t [] [] kept h = absurd h
+rows-pop t [] (q ∷ (p ∷ ps)) kept h = absurd h.1
+rows-pop t (other ∷ stack) [] kept h = absurd h
+rows-pop t (other ∷ stack) (p ∷ ps) kept h =
+    let k = rows-pop t stack ps kept h.1 in (p ∷ k.0, k.1, ap (λ qs. p ∷ qs) k.2, (h.0, k.3), k.4)
 
 -- what follows from a row's words is what follows from the code's step
-step-coming : (t : Reading) (task : PlainTask) (told : Told) (said : Said) (next : Step Kept) (new : World) (left depth : ℕ) → Steps say (stands t) t task told said next new → step (reach say) task told depth said left ≡ coming t next (plain t new) left depth
+
+abbrev learnt_in : Said → Told
+learnt_in (Asks w learnt other) = learnt
+learnt_in (Ends w r) = []
+
+abbrev waiting : PlainTask → Told → Said → Pending
+waiting task told said = record { task = task; told = told ++ learnt_in said }
+
+step-waits : (t : Reading) (task : PlainTask) (told : Told) (said : Said) (next : Step Kept) (new : World) → Steps (stands t) t (λ u more. say u task (told ++ more)) said next new → WaitsAt t next (waiting task told said)
+step-waits t task told (Ends w r) (Ask other kept) new h = absurd h
+step-waits t task told (Ends w r) (End s) new h = tt
+step-waits t task told (Asks w learnt other) (End s) new h = absurd h
+step-waits t task told (Asks w learnt other) (Ask next kept) new h = λ u r more. ap (say u task) (append_assoc told learnt (Answered r ∷ more)) ∙ h.2 u r more
+
+step-coming : (t : Reading) (task : PlainTask) (told : Told) (said : Said) (next : Step Kept) (new : World) (left depth : ℕ) → Steps (stands t) t (λ u more. say u task (told ++ more)) said next new → step (reach say) task told depth said left ≡ coming t next (waiting task told said) (plain t new) left depth
 step-coming t task told (Ends w r) (Ask other kept) new left depth h = absurd h
 step-coming t task told (Ends w r) (End s) new left depth h =
     ap (λ w. Out w (Over r) left) (sym h.1) ∙ ap (λ r. Out (plain t new) (Over r) left) (sym h.0)
 step-coming t task told (Asks w learnt other) (End s) new left depth h = absurd h
 step-coming t task told (Asks w learnt other) (Ask next kept) new zero depth h = ap (λ w. Out w NoUnits zero) (sym h.1)
 step-coming t task told (Asks w learnt other) (Ask next kept) new (suc left) depth h =
-    carry-like _ _ (asked (reach say) w other left (suc depth)) (λ w r left. reach-alike say (record { task = task; told = told ++ learnt }) (stands t kept) h.2 w r left depth)
-    ∙ ap (λ w. finish (stands t kept) depth (asked (reach say) w other left (suc depth))) (sym h.1)
-    ∙ ap (λ other. finish (stands t kept) depth (asked (reach say) (plain t new) other left (suc depth))) (sym h.0)
+    let p = waiting task told (Asks w learnt other) in
+    ap (λ w. finish p depth (asked (reach say) w other left (suc depth))) (sym h.1)
+    ∙ ap (λ other. finish p depth (asked (reach say) (plain t new) other left (suc depth))) (sym h.0)
 
 -- an answer goes to the frame on top
-pub state-resume : (t : Reading) (old new : World) (stack : List Kept) (kept : Kept) (r : Result Answer Fault) (left : ℕ) (next : Step Kept) → Resumes kept r old new next → Reads t new → state t new stack left next ≡ state t old (stack ++ kept ∷ []) left (End r)
-unfolding state
-state-resume t old new stack kept r left next h reads =
-    let p = stands t kept in
+state-resume : (t : Reading) (old new : World) (stack : List Kept) (kept : Kept) (r : Result Answer Fault) (left : ℕ) (next : Step Kept) (o : Outcome) → Resumes kept r old new next → Reads t new → Comes t old (stack ++ kept ∷ []) left (End r) o → Comes t new stack left next o
+unfolding Comes
+state-resume t old new stack kept r left next o h reads comes =
+    let k = rows-pop t stack comes.0 kept comes.2 in
+    let qs = k.0 in
+    let q = k.1 in
     let w = plain t old in
-    let told = p.told ++ Answered (ended_of r) ∷ [] in
-    let d : length (map (stands t) stack) ≡ length stack = length-map stack (stands t) in
-    sym (ap (λ ps. unwind 0 ps (Out w (Over (ended_of r)) left)) (map-append (stands t) stack (kept ∷ []))
-    ∙ unwind-push (map (stands t) stack) p (Out w (Over (ended_of r)) left)
-    ∙ ap (unwind 0 (map (stands t) stack)) (
-    reach-is say w p.task told left (length (map (stands t) stack))
-    ∙ step-coming t p.task told (say w p.task told) next new left (length (map (stands t) stack)) (h t reads).1
-    ∙ ap (coming t next (plain t new) left) d))
+    let told = q.told ++ Answered (ended_of r) ∷ [] in
+    let says : (u : PlainWorld) (more : Told) → say u q.task (told ++ more) ≡ stands t kept (ended_of r) u more = λ u more. ap (say u q.task) (append_assoc q.told (Answered (ended_of r) ∷ []) more) ∙ k.4 u (ended_of r) more in
+    let said = say w q.task told in
+    let steps = steps-on (stands t) t (λ u more. say u q.task (told ++ more)) (stands t kept (ended_of r)) says said next new
+    (subst (λ s. Steps (stands t) t (stands t kept (ended_of r)) s next new) (sym (k.4 w (ended_of r) [])) (h t reads).1) in (
+      qs,
+      waiting q.task told said,
+      k.3,
+      step-waits t q.task told said next new steps,
+      sym (sym comes.4
+          ∙ ap (λ ps. unwind 0 ps (Out w (Over (ended_of r)) left)) k.2
+          ∙ unwind-push qs q (Out w (Over (ended_of r)) left)
+          ∙ ap (unwind 0 qs) (reach-is say w q.task told left (length qs) ∙ step-coming t q.task told said next new left (length qs) steps)),
+    )
 
-module _ (t : Reading) (old : World) (stack : List Kept) (task : Task) (kept : Kept) (left : ℕ) where
-  -- a frame goes onto the stack
-  pushed : state t old stack (suc left) (Ask task kept) ≡ unwind 0 (map (stands t) (stack ++ kept ∷ [])) (asked (reach say) (plain t old) (task_of t task) left (length (stack ++ kept ∷ [])))
-  unfolding state
-  pushed =
-      let o = asked (reach say) (plain t old) (task_of t task) left (suc (length stack)) in
-      let n : suc (length stack) ≡ length (stack ++ kept ∷ []) = omega (arith, length-append stack (kept ∷ [])) in
-      ap (λ d. unwind 0 (map (stands t) stack) (finish (stands t kept) d o)) (sym (length-map stack (stands t)))
-      ∙ sym (unwind-push (map (stands t) stack) (stands t kept) o)
-      ∙ ap (λ ps. unwind 0 ps o) (sym (map-append (stands t) stack (kept ∷ [])))
-      ∙ ap (λ n. unwind 0 (map (stands t) (stack ++ kept ∷ [])) (asked (reach say) (plain t old) (task_of t task) left n)) n
-
-  -- an asked task begins above it
-  pub state-asked : (new : World) (next : Step Kept) (depth : ℕ) → depth ≡ suc (length stack) → BeginsAt depth task old new next → Reads t new → state t new (stack ++ kept ∷ []) left next ≡ state t old stack (suc left) (Ask task kept)
-  unfolding state
-  state-asked new next depth e h reads =
-      let n : depth ≡ length (stack ++ kept ∷ []) = omega (arith, e, length-append stack (kept ∷ [])) in
-      let b : BeginsAt (length (stack ++ kept ∷ [])) task old new next = subst (λ d. BeginsAt d task old new next) n h in
-      sym (pushed ∙ ap (unwind 0 (map (stands t) (stack ++ kept ∷ []))) ((b t reads).1 left))
+-- an asked task begins above the row's frame
+state-asked : (t : Reading) (old new : World) (stack : List Kept) (task : Task) (kept : Kept) (left depth : ℕ) (next : Step Kept) (o : Outcome) → depth ≡ suc (length stack) → BeginsAt depth task old new next → Reads t new → Comes t old stack (suc left) (Ask task kept) o → Comes t new (stack ++ kept ∷ []) left next o
+unfolding Comes
+state-asked t old new stack task kept left depth next o e h reads comes =
+    let ps = comes.0 in
+    let p = comes.1 in
+    let n : depth ≡ length (ps ++ p ∷ []) = omega (arith, e, length-append ps (p ∷ []), rows-length t stack ps comes.2) in
+    let d : suc (length ps) ≡ length (ps ++ p ∷ []) = omega (arith, length-append ps (p ∷ [])) in
+    let b = subst (λ d. BeginsAt d task old new next) n h t reads in (
+      ps ++ p ∷ [],
+      b.1,
+      rows-push t stack ps kept p comes.2 comes.3,
+      b.2,
+      unwind-push ps p (coming t next b.1 (plain t new) left (length (ps ++ p ∷ [])))
+          ∙ ap (λ o. unwind 0 ps (finish p (length ps) o)) (sym (b.3 left))
+          ∙ ap (λ d. unwind 0 ps (finish p (length ps) (asked (reach say) (plain t old) (task_of t task) left d))) (sym d)
+          ∙ comes.4,
+    )
 
 -- a task begins where a row asked it
 module _ (depth : ℕ) (task : Task) where
   begins-at : (old new : World) (next : Step Kept) → nat_lt depth 1000 ≡ true → Begins task old new next → BeginsAt depth task old new next
-  begins-at old new next low h = λ t reads. (
-    (h t reads).0,
-    λ left.
-        let w = plain t old in
-        ap (λ b. cond b (reach say w (task_of t task) [] left depth) (Out w (Over (fault DepthLimit)) left)) low
-        ∙ reach-is say w (task_of t task) [] left depth
-        ∙ step-coming t (task_of t task) [] (say w (task_of t task) []) next new left depth (h t reads).1,
-  )
+  begins-at old new next low h = λ t reads.
+      let w = plain t old in
+      let job = task_of t task in
+      let said = say w job [] in (
+        (h t reads).0,
+        waiting job [] said,
+        step-waits t job [] said next new (h t reads).1,
+        λ left.
+            ap (λ b. cond b (reach say w job [] left depth) (Out w (Over (fault DepthLimit)) left)) low
+            ∙ reach-is say w job [] left depth
+            ∙ step-coming t job [] said next new left depth (h t reads).1,
+      )
 
   pub asked-begins : {E : Type 0} (old new : World) (o : Result (Step Kept) E) → depth < 1000 → IfOk o (λ next. Begins task old new next) → IfOk o (λ next. BeginsAt depth task old new next)
   asked-begins old new (Ok next) below h = begins-at old new next (lt-ltb _ _ below) h
@@ -88,27 +131,39 @@ module _ (depth : ℕ) (task : Task) where
   pub asked-limited : (w : World) → 1000 ≤ depth → BeginsAt depth task w w (End (fault DepthLimit))
   asked-limited w above = λ t reads. (
     reads,
+    record { task = task_of t task; told = [] },
+    tt,
     λ left.
         let now = plain t w in
         ap (λ b. cond b (reach say now (task_of t task) [] left depth) (Out now (Over (fault DepthLimit)) left)) (le-ltb _ _ above),
   )
 
 -- no unit is left
-pub state-no_units : (t : Reading) (w : World) (stack : List Kept) (task : Task) (kept : Kept) → Out (plain t w) NoUnits 0 ≡ state t w stack 0 (Ask task kept)
-unfolding state
-state-no_units t w stack task kept = sym (unwind-no_units 0 (map (stands t) stack) (plain t w) 0)
+state-no_units : (t : Reading) (w : World) (stack : List Kept) (task : Task) (kept : Kept) (o : Outcome) → Comes t w stack 0 (Ask task kept) o → o ≡ Out (plain t w) NoUnits 0
+unfolding Comes
+state-no_units t w stack task kept o comes = sym comes.4 ∙ unwind-no_units 0 comes.0 (plain t w) 0
 
 -- an answer is the end where no frame waits
-pub state-end : (t : Reading) (w : World) (left : ℕ) (r : Result Answer Fault) → Out (plain t w) (Over (ended_of r)) left ≡ state t w [] left (End r)
-unfolding state
-state-end t w left r = refl
+state-end : (t : Reading) (w : World) (left : ℕ) (r : Result Answer Fault) (o : Outcome) → Comes t w [] left (End r) o → o ≡ Out (plain t w) (Over (ended_of r)) left
+unfolding Comes
+state-end t w left r o comes = sym comes.4 ∙ none comes.0 comes.2
+  where
+    none : (ps : List Pending) → AllWait t [] ps → unwind 0 ps (Out (plain t w) (Over (ended_of r)) left) ≡ Out (plain t w) (Over (ended_of r)) left
+    none [] h = refl
+    none (p ∷ ps) h = absurd h
 
 -- the first task begins
-pub state-first : (t : Reading) (old new : World) (task : Task) (left : ℕ) (next : Step Kept) → Begins task old new next → Reads t new → state t new [] left next ≡ reach say (plain t old) (task_of t task) [] left 0
-unfolding state
+pub state-first : (t : Reading) (old new : World) (task : Task) (left : ℕ) (next : Step Kept) → Begins task old new next → Reads t new → Comes t new [] left next (reach say (plain t old) (task_of t task) [] left 0)
+unfolding Comes
 state-first t old new task left next h reads =
-    sym (reach-is say (plain t old) (task_of t task) [] left 0
-    ∙ step-coming t (task_of t task) [] (say (plain t old) (task_of t task) []) next new left 0 (h t reads).1)
+    let job = task_of t task in
+    let said = say (plain t old) job [] in (
+      [],
+      waiting job [] said,
+      tt,
+      step-waits t job [] said next new (h t reads).1,
+      sym (reach-is say (plain t old) job [] left 0 ∙ step-coming t job [] said next new left 0 (h t reads).1),
+    )
 
 pub no-frames : (stack : List Kept) → length stack ≡ 0 → stack ≡ []
 no-frames [] h = refl
@@ -121,7 +176,7 @@ module _ (task : Task) (first : World) (units : ℕ) where
   resumed w new rest kept r left next way goes leaves = record {
     outcome = λ t reads.
         let o = way.outcome t (goes t reads).0 in
-        (o.0, state-resume t w new rest kept r left next goes reads ∙ o.1);
+        (o.0, state-resume t w new rest kept r left next _ goes reads o.1);
     lasts = lasts-on first w new way.lasts leaves.0;
     bodies = let b = way.bodies in let l = leaves.1.1 in let s = sum_by_push bodies_in rest kept in omega (arith, b, l, s);
     frames = all-last w new leaves.0 _ (each-pop w of_kept rest kept way.frames).0;
@@ -135,7 +190,7 @@ module _ (task : Task) (first : World) (units : ℕ) where
       record {
         outcome = λ t reads.
             let o = on.outcome t (goes t reads).0 in
-            (o.0, state-asked t w stack asked kept rest new next depth deep goes reads ∙ o.1);
+            (o.0, state-asked t w new stack asked kept rest depth next _ deep goes reads o.1);
         lasts = lasts-on first w new on.lasts leaves.0;
         bodies = let b = on.bodies in let l = leaves.1.1 in let s = sum_by_push bodies_in stack kept in omega (arith, b, l, s);
         frames = all-last w new leaves.0 _ (each-push w of_kept stack kept on.frames (all-rest w (of_task asked) (of_kept kept) on.claims));
@@ -144,8 +199,8 @@ module _ (task : Task) (first : World) (units : ℕ) where
 
   -- it has come to an end where no frame waits
   pub over : (w : World) (r : Result Answer Fault) (left : ℕ) → IsOnItsWay task first units w [] left (End r) → Reaches task first units w (code.Over r)
-  over w r left way = λ t reads. let o = way.outcome t reads in (o.0, left, sym (state-end t w left r ∙ o.1))
+  over w r left way = λ t reads. let o = way.outcome t reads in (o.0, left, state-end t w left r _ o.1)
 
   -- or no unit is left
   pub spent : (w : World) (stack : List Kept) (asked : Task) (kept : Kept) → IsOnItsWay task first units w stack 0 (Ask asked kept) → Reaches task first units w code.NoUnits
-  spent w stack asked kept way = λ t reads. let o = way.outcome t reads in (o.0, 0, sym (state-no_units t w stack asked kept ∙ o.1))
+  spent w stack asked kept way = λ t reads. let o = way.outcome t reads in (o.0, 0, state-no_units t w stack asked kept _ o.1)

@@ -19,7 +19,7 @@ pub use Rattle.class_world.specs.Held.{Held}
 pub use Rattle.class_world.specs.Names.{AddsName}
 pub use Rattle.class_world.specs.NewHeap.{of_slots, refused_heap, slot_texts}
 pub use Rattle.class_world.specs.Reading.{IsReadable, Reading, Reads, answer_of, bindings, datum, ended_of, plain, protocol_job, spelled, spelled_option, task_of}
-pub use Rattle.class_world.specs.Rows.{EndsAs, Goes, LeavesEnd}
+pub use Rattle.class_world.specs.Rows.{EndsAs, LeavesEnd}
 pub use Rattle.class_world.specs.Sound.{AllHold, AreNames, Claim, Grows, Holding, Holds, IsClass, IsExpression, IsName, IsNode, IsOf, IsOffset, Lasts, class_in, home_of, of_binding, of_class_ref, of_each, of_name_ref, of_option, of_payload}
 pub use Rattle.class_world.specs.declared.world.World.{World}
 pub use Rattle.native_containers.specs.NativeCompare.Rows.{compared_stands, of_compared_kept}
@@ -33,9 +33,8 @@ pub use Rattle.native_containers.specs.Say.{dict_say, iterator_say, list_say, tu
 pub use Rattle.plain_machine.specs.Answer.{Ending, NoUnits, Out, Outcome, Over, Run, answer, answering, asked, carry, plain_run, reach, replied}
 pub use Rattle.plain_machine.specs.Change.{SetBases, apply, without_own_attr}
 pub use Rattle.plain_machine.specs.Known.{the_type}
-pub use Rattle.plain_machine.specs.Plain.{ABuiltinMethod, AClassMethod, AStaticMethod, Answered, Bindings, Datum, DoCollect, DoContains, DoCount, DoEval, DoFind, DoGetIter, DoHint, DoIndex, DoIsTrue, DoLength, DoNext, DoWhole, Ends, PlainTask, PlainWorld, ProtocolJob, Said, Saying, ToAttribute, ToCall, ToClass, ToCompare, ToDescriptor, ToEval, ToNative, ToObject, ToOperator, ToProtocol}
+pub use Rattle.plain_machine.specs.Plain.{ABuiltinMethod, AClassMethod, AStaticMethod, Answered, Bindings, Datum, DoCollect, DoContains, DoCount, DoEval, DoFind, DoGetIter, DoHint, DoIndex, DoIsTrue, DoLength, DoNext, DoWhole, Ended, Ends, PlainTask, PlainWorld, ProtocolJob, Said, Saying, ToAttribute, ToCall, ToClass, ToCompare, ToDescriptor, ToEval, ToNative, ToObject, ToOperator, ToProtocol, Told}
 pub use Rattle.plain_machine.specs.Row.{Row, elsewhere, end}
-pub use Rattle.plain_machine.specs.Rows.{Pending, fresh, given}
 pub use Rattle.plain_machine.specs.Show.{show}
 pub use Rattle.plain_machine.specs.Sound.{IsSound, read_offset, set_offset}
 pub use Rattle.plain_machine.specs.Start.{start}
@@ -83,7 +82,7 @@ pub use Rattle.py_node.specs.Tree.{Text, Tree, tree_of}
 pub use Rattle.py_node.specs.declared.built_in.BuiltIn.{BuiltIn}
 pub use Rattle.py_node.specs.declared.built_in.BuiltIn.TheVariants.{Int, Str, TypeType}
 pub use Rattle.py_node.specs.declared.entry.NativeEntry.{NativeEntry}
-pub use Rattle.py_node.specs.declared.entry.NativeEntry.TheVariants.{Compare, Getter, GetterOf, NewOf, NewWrapper, OfArithmetic, OfBits, OfCallable, OfDescriptor, OfDict, OfFixed, OfIterator, OfList, OfNumber, OfProperty, OfStr, OfSuper, OfTuple, OfWrapper, Setter, SetterOf}
+pub use Rattle.py_node.specs.declared.entry.NativeEntry.TheVariants.{Compare, Getter, GetterOf, NewOf, OfArithmetic, OfBits, OfCallable, OfDescriptor, OfDict, OfFixed, OfIterator, OfList, OfNumber, OfProperty, OfStr, OfSuper, OfTuple, OfWrapper, Setter, SetterOf}
 pub use Rattle.py_node.specs.declared.expr.Command.{Command}
 pub use Rattle.py_node.specs.declared.memory.OutOfMemory.{OutOfMemory}
 pub use Rattle.py_node.specs.declared.raised.Cause.{Cause}

@@ -1,5 +1,5 @@
 -- What makes an object in the world of a machine.
-use Rattle.vm_eval.specs.Below.{ℕ, Result, Ok, Err, place_of, BuiltIn, OutOfMemory, PyObjectRef, Datum, with_node, next_node, Held, Reading, Reads, plain}
+use Rattle.vm_eval.specs.Below.{Result, Ok, Err, place_of, BuiltIn, OutOfMemory, PyObjectRef, Datum, with_node, next_node, Held, Reading, Reads, plain}
 use Rattle.std.specs.Prelude.{◌≡◌}
 
 -- the plain world has one object more, of a built-in class and with this contents; without memory it is as it was

@@ -1,5 +1,7 @@
 -- The rows of all groups.
-use Rattle.vm_eval.specs.Below.{ℕ, List, [], Result, Raised as Fault, Answer, Task, Step, Ask, End, PlainWorld, PlainTask, ProtocolJob, DoIsTrue, DoIndex, DoWhole, DoLength, DoHint, DoGetIter, DoNext, DoCollect, DoContains, DoCount, DoFind, ToEval, ToAttribute, ToDescriptor, ToCall, ToClass, ToOperator, ToCompare, ToProtocol, ToObject, ToNative, Saying, Row, Pending, fresh, given, World, Reading, task_of, ended_of, Goes, Claim, eval_say, eval_stands, of_eval_kept, attribute_say, attribute_stands, of_attribute_kept, descriptor_stands, of_descriptor_kept, call_job_say, call_stands, of_call_kept, bodies_of, class_job_say, class_stands, of_class_kept, descriptor_say, operator_say, operator_stands, of_operator_kept, compare_job_say, compare_stands, of_compare_kept, number_job_say, number_stands, of_number_kept, iter_stands, of_iter_kept, items_stands, of_items_kept, object_stands, of_object_kept, iter_job_say, items_job_say, object_job_say}
+use Rattle.vm_eval.specs.Below.{ℕ, List, Result, Raised as Fault, Answer, Task, Step, PlainWorld, PlainTask, ProtocolJob, DoIsTrue, DoIndex, DoWhole, DoLength, DoHint, DoGetIter, DoNext, DoCollect, DoContains, DoCount, DoFind, ToEval, ToAttribute, ToDescriptor, ToCall, ToClass, ToOperator, ToCompare, ToProtocol, ToObject, ToNative, Saying, Row, Ended, World, Reading, task_of, Claim, eval_say, eval_stands, of_eval_kept, attribute_say, attribute_stands, of_attribute_kept, descriptor_stands, of_descriptor_kept, call_job_say, call_stands, of_call_kept, bodies_of, class_job_say, class_stands, of_class_kept, descriptor_say, operator_say, operator_stands, of_operator_kept, compare_job_say, compare_stands, of_compare_kept, number_job_say, number_stands, of_number_kept, iter_stands, of_iter_kept, items_stands, of_items_kept, object_stands, of_object_kept, iter_job_say, items_job_say, object_job_say}
+use Rattle.row_kit.specs.Points as points
+use Rattle.row_kit.specs.Points.{Group, Point, among}
 use Rattle.vm_eval.specs.OfNatives.Say.{NativeJob, native_job_say}
 use Rattle.vm_eval.specs.OfNatives.Rows.{natives_stands, of_natives_kept}
 use Rattle.vm_eval.specs.declared.protocols.Branch.{Branch}
@@ -47,34 +49,34 @@ say w (ToProtocol job) = protocol_say w job
 say w (ToObject job) = object_job_say w job
 say w (ToNative n args kw) = native_job_say w (record { entry = n; args = args; kw = kw })
 
--- a row of a group, among all rows
-abbrev pub among : {J : Type 0} → (J → PlainTask) → Pending J → Pending PlainTask
-among to p = record { task = to p.task; told = p.told }
-
 -- what is kept, among all that is kept
 abbrev pub step_among : {K : Type 0} → (K → Kept) → Step K → Step Kept
-step_among for (Ask task kept) = Ask task (for kept)
-step_among for (End r) = End r
+step_among for step = among for step
 
-unfoldable pub stands : Reading → Kept → Pending PlainTask
-stands t (ForEval kept) = among ToEval (eval_stands t kept)
-stands t (ForAttribute kept) = among ToAttribute (attribute_stands t kept)
-stands t (ForDescriptor kept) = among ToDescriptor (descriptor_stands t kept)
-stands t (ForCall kept) = among ToCall (call_stands t kept)
-stands t (ForClass kept) = among ToClass (class_stands t kept)
-stands t (ForOperator kept) = among ToOperator (operator_stands t kept)
-stands t (ForCompare kept) = among ToCompare (compare_stands t kept)
-stands t (ForNumber kept) = among ToProtocol (number_stands t kept)
-stands t (ForNative kept) = among to_native (natives_stands t kept)
-stands t (ForIteration kept) = among ToProtocol (iter_stands t kept)
-stands t (ForItems kept) = among ToProtocol (items_stands t kept)
-stands t (ForObject kept) = among ToObject (object_stands t kept)
+-- what is done with the answer where something is kept
+unfoldable pub stands : Reading → Kept → Ended → Point
+stands t (ForEval kept) = eval_stands t kept
+stands t (ForAttribute kept) = attribute_stands t kept
+stands t (ForDescriptor kept) = descriptor_stands t kept
+stands t (ForCall kept) = call_stands t kept
+stands t (ForClass kept) = class_stands t kept
+stands t (ForOperator kept) = operator_stands t kept
+stands t (ForCompare kept) = compare_stands t kept
+stands t (ForNumber kept) = number_stands t kept
+stands t (ForNative kept) = natives_stands t kept
+stands t (ForIteration kept) = iter_stands t kept
+stands t (ForItems kept) = items_stands t kept
+stands t (ForObject kept) = object_stands t kept
+
+-- all rows, as a group
+abbrev pub machine_group : Group Task Kept
+machine_group = record { row = λ t task w. say w (task_of t task); stands = stands }
 
 abbrev pub Begins : Task → World → World → Step Kept → Type 0
-Begins task = Goes say stands (λ t. fresh (task_of t task))
+Begins = points.Begins machine_group
 
 abbrev pub Resumes : Kept → Result Answer Fault → World → World → Step Kept → Type 0
-Resumes kept r = Goes say stands (λ t. given (stands t kept) (ended_of r))
+Resumes = points.Resumes machine_group
 
 abbrev pub of_kept : Kept → List Claim
 of_kept (ForEval kept) = of_eval_kept kept

@@ -1,34 +1,55 @@
 -- What a stack of frames comes to, in the terms of `reach`.
-use Rattle.vm_eval.specs.Below.{ℕ, zero, suc, List, [], length, map, sum_by, Task, Step, Ask, End, PlainWorld, PlainTask, Answered, Ending, Over, NoUnits, Outcome, Out, carry, asked, reach, answer, Pending, World, Held, Reading, Reads, plain, task_of, ended_of, Claim, AllHold, Lasts, of_each, of_step, of_ended, left_open}
+use Rattle.vm_eval.specs.Below.{ℕ, zero, suc, List, [], length, sum_by, Task, Step, Ask, End, PlainWorld, PlainTask, Answered, Ending, Over, NoUnits, Outcome, Out, carry, asked, reach, answer, Ended, Told, World, Held, Reading, Reads, plain, task_of, ended_of, Claim, AllHold, Lasts, of_each, of_step, of_ended, left_open}
 use Rattle.std.specs.Prelude.{◌≡◌, ◌+◌, ◌≤◌, ◌∷◌, ◌++◌}
 use Rattle.vm_eval.specs.declared.stack.Kept.{Kept}
 use Rattle.vm_eval.specs.declared.stack.End.{End as CodeEnd}
 use Rattle.vm_eval.specs.declared.stack.End.TheVariants as code
 use Rattle.vm_eval.specs.Say.{say, stands, of_kept, bodies_in}
 
+-- a row at some point: its task, and what it has learnt so far
+pub record Pending : Type 0 where
+  pub task : PlainTask
+  pub told : Told
+
 -- a row's outcome, from the outcome of what it asked
-abbrev pub finish : Pending PlainTask → ℕ → Outcome → Outcome
+abbrev pub finish : Pending → ℕ → Outcome → Outcome
 finish p depth o = carry (λ w r left. reach say w p.task (p.told ++ Answered r ∷ []) left depth) o
 
 -- the outcome of the lowest frame, from the outcome of what the top frame asked
-abbrev pub unwind : ℕ → List (Pending PlainTask) → Outcome → Outcome
+abbrev pub unwind : ℕ → List Pending → Outcome → Outcome
 unwind depth [] o = o
 unwind depth (p ∷ ps) o = finish p depth (unwind (suc depth) ps o)
 
--- the outcome of a row that has come to this step
-abbrev pub coming : Reading → Step Kept → PlainWorld → ℕ → ℕ → Outcome
-coming t (End r) w left depth = Out w (Over (ended_of r)) left
-coming t (Ask task kept) w zero depth = Out w NoUnits zero
-coming t (Ask task kept) w (suc left) depth = finish (stands t kept) depth (asked (reach say) w (task_of t task) left (suc depth))
+-- a row waits here: at each answer, it does what is done with that where this is kept
+abbrev pub Waits : Reading → Kept → Pending → Type 0
+Waits t kept p = (w : PlainWorld) (r : Ended) (more : Told) → say w p.task (p.told ++ Answered r ∷ more) ≡ stands t kept r w more
+
+-- such a row for each frame
+abbrev pub AllWait : Reading → List Kept → List Pending → Type 0
+AllWait t [] [] = Unit {0}
+AllWait t (kept ∷ stack) (p ∷ ps) = Waits t kept p × AllWait t stack ps
+AllWait t _ _ = ⊥
+
+-- the row that has come to this step, where it asks
+abbrev pub WaitsAt : Reading → Step Kept → Pending → Type 0
+WaitsAt t (End r) p = Unit {0}
+WaitsAt t (Ask task kept) p = Waits t kept p
+
+-- its outcome
+abbrev pub coming : Reading → Step Kept → Pending → PlainWorld → ℕ → ℕ → Outcome
+coming t (End r) p w left depth = Out w (Over (ended_of r)) left
+coming t (Ask task kept) p w zero depth = Out w NoUnits zero
+coming t (Ask task kept) p w (suc left) depth = finish p depth (asked (reach say) w (task_of t task) left (suc depth))
 
 -- the first step of a task that a row asked, at so great a depth: what is asked comes to the same
 abbrev pub BeginsAt : ℕ → Task → World → World → Step Kept → Type 0
 BeginsAt depth task old new step =
-    (t : Reading) → Reads t new → Reads t old × ((left : ℕ) → asked (reach say) (plain t old) (task_of t task) left depth ≡ coming t step (plain t new) left depth)
+    (t : Reading) → Reads t new → Reads t old × (p : Pending) × WaitsAt t step p × ((left : ℕ) → asked (reach say) (plain t old) (task_of t task) left depth ≡ coming t step p (plain t new) left depth)
 
--- the outcome that the machine is on its way to
-unfoldable pub state : Reading → World → List Kept → ℕ → Step Kept → Outcome
-state t w stack left step = unwind 0 (map (stands t) stack) (coming t step (plain t w) left (length stack))
+-- the machine is on its way to this outcome
+unfoldable pub Comes : Reading → World → List Kept → ℕ → Step Kept → Outcome → Type 0
+Comes t w stack left step o =
+    (ps : List Pending) × (p : Pending) × AllWait t stack ps × WaitsAt t step p × (unwind 0 ps (coming t step p (plain t w) left (length ps)) ≡ o)
 
 -- how a command ended, in the terms of the plain machine
 abbrev pub ending_of : CodeEnd → Ending
@@ -55,7 +76,7 @@ RunsAbove below w stack step = length w.scopes ≡ below + (sum_by bodies_in sta
 
 -- the machine is on its way to what a task comes to that began in the first world and may use so many units
 pub record IsOnItsWay (task : Task) (first : World) (units : ℕ) (w : World) (stack : List Kept) (left : ℕ) (step : Step Kept) : Type 0 where
-  pub outcome : (t : Reading) → Reads t w → Reads t first × (state t w stack left step ≡ reach say (plain t first) (task_of t task) [] units 0)
+  pub outcome : (t : Reading) → Reads t w → Reads t first × Comes t w stack left step (reach say (plain t first) (task_of t task) [] units 0)
   pub lasts : Lasts first w
   pub bodies : RunsAbove (length first.scopes) w stack step
   pub frames : AllHold w (of_each of_kept stack)

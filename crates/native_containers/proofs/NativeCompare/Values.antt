@@ -1,5 +1,5 @@
 -- The values under the keys of entries, one after another.
-use Rattle.native_containers.proofs.Below.{ℕ, suc, List, [], length, get_or, drop, map, Option, Some, None, refl, sym, ap, ◌∙◌, arith, append_assoc, option_map, option_and_then, drop_all, drop-cons, PyObjectRef, Entries, PlainWorld, keys_of, value_under, Objects, values_under}
+use Rattle.native_containers.proofs.Below.{ℕ, suc, [], length, get_or, drop, Option, Some, None, refl, sym, ap, ◌∙◌, arith, append_assoc, option_map, option_and_then, drop_all, drop-cons, PyObjectRef, Entries, PlainWorld, keys_of, value_under, Objects, values_under}
 use Rattle.std.proofs.Common.{◌≡◌, ◌+◌, ◌<◌, ◌≤◌, ◌∷◌, ◌++◌}
 
 -- these, and then the values that are left

@@ -1,12 +1,12 @@
 -- What an iterator that is asked for its next item does.
-use Rattle.native_containers.proofs.Below.{◌∙◌, ℕ, [], None, Ok, Err, refl, ap, sym, encode_utf8, Next, OfIterator, GetItem, known_text, SequenceIterator, IterEnd, PyObjectRef, raised, Value, Step, Ask, End, Task, the_int, the_str, Bindings, ANumber, AText, Asks, DoSpecial, ToAttribute, ToNative, Ends, value, fault, Alike, datum_at, next_node, with_node, World, Reading, Reads, plain, task_of, Nothing, Item, Character, Unknown, ItemKept, Iterating, found_in, moved_past, next_in, next_place, with_place, Does, item_stands, item_job_say}
+use Rattle.native_containers.proofs.Below.{◌∙◌, ℕ, [], None, Ok, Err, refl, ap, sym, encode_utf8, Next, OfIterator, GetItem, known_text, SequenceIterator, IterEnd, PyObjectRef, raised, Value, Step, Ask, End, Task, the_int, the_str, Bindings, ANumber, AText, Asks, DoSpecial, ToAttribute, ToNative, Ends, value, fault, datum_at, next_node, with_node, World, Reading, Reads, plain, task_of, Nothing, Item, Character, Unknown, ItemKept, Iterating, found_in, moved_past, next_in, next_place, with_place, Does, item_stands, item_job_say, PlainWorld, Ended, Told, Answered}
 use Rattle.std.proofs.Common.{◌≡◌, ◌∷◌}
 use Rattle.std.specs.Prelude.{pos}
 use Rattle.native_containers.proofs.NativeItems.Steps.{ends-does, made-does}
 
-iterating-alike : (o : PyObjectRef) (t : Reading) (kw : Bindings) → Alike item_job_say (record { task = ToNative (OfIterator Next) (o ∷ []) kw; told = [] }) (item_stands t (Iterating o))
+iterating-alike : (o : PyObjectRef) (t : Reading) (kw : Bindings) (u : PlainWorld) (r : Ended) (more : Told) → item_job_say u (ToNative (OfIterator Next) (o ∷ []) kw) (Answered r ∷ more) ≡ item_stands t (Iterating o) r u more
 unfolding item_job_say
-iterating-alike o t kw = record { says = λ u r more. refl }
+iterating-alike o t kw u r more = refl
 
 module _ (o : PyObjectRef) (i : SequenceIterator) (n : ℕ) (old new : World) (reads : (t : Reading) → Reads t new → Reads t old) where
   abbrev DoesNext : Step ItemKept → Type 0

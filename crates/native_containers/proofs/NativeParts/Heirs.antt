@@ -1,5 +1,5 @@
 -- What makes numbers, truth values, texts and tuples: what it says, and how it goes on.
-use Rattle.native_containers.proofs.Below.{◌∙◌, ℕ, ℤ, pos, false, cond, List, [], Option, Some, None, Ok, Err, refl, ap, eq-eqb, ne_eqb, NewOf, SelfType, PyObjectRef, PyTypeRef, Value, End, raised, Text, the_int, the_str, class_object, ANumber, AText, ATuple, PlainWorld, Bindings, DoWhole, DoIsTrue, DoStr, DoCollect, ToObject, ToProtocol, ToNative, Ended, Said, Ends, Told, Answered, ReadObjects, pass, truth, value, datum_at, next_node, number_of, ref, with_node, World, Reading, Reads, plain, object_made, with_heir, NewInt, NewBool, NewStr, NewTuple, asks_for, str_made, with_one_at_most, int_made_of, int_of_class, Resumes, parts_stands, parts_job_say, text_at}
+use Rattle.native_containers.proofs.Below.{◌∙◌, ℕ, ℤ, pos, false, cond, List, [], Option, Some, None, Ok, Err, refl, ap, eq-eqb, ne_eqb, NewOf, SelfType, PyObjectRef, PyTypeRef, Value, End, raised, Text, the_int, the_str, class_object, ANumber, AText, ATuple, PlainWorld, Bindings, DoWhole, DoIsTrue, DoStr, DoCollect, ToObject, ToProtocol, ToNative, Ended, Said, Ends, Told, Answered, ReadObjects, pass, truth, value, datum_at, next_node, number_of, ref, with_node, World, Reading, Reads, plain, object_made, with_heir, NewInt, NewBool, NewStr, NewTuple, asks_for, with_one_at_most, int_of_class, Resumes, parts_stands, parts_job_say, text_at}
 use Rattle.std.proofs.Common.{◌≡◌, ◌∷◌, ◌++◌}
 use Rattle.py_node.specs.declared.built_in.BuiltIn.TheVariants as built_in
 use Rattle.native_containers.proofs.NativeParts.Made.{made-so, resumes-end}
@@ -50,41 +50,32 @@ module _ (args : List PyObjectRef) (u : PlainWorld) (bs : Bindings) where
 
 -- at an answer
 module _ (args : List PyObjectRef) (c : PyTypeRef) (bs : Bindings) (t : Reading) (u : PlainWorld) (r : Ended) (more : Told) where
-  pub int-waits : parts_job_say u (ToNative (NewOf built_in.Int) args bs) (ReadObjects (ref c.0 ∷ []) ∷ (Answered r ∷ more)) ≡ parts_job_say u (parts_stands t (NewInt c)).task ((parts_stands t (NewInt c)).told ++ Answered r ∷ more)
+  pub int-waits : parts_job_say u (ToNative (NewOf built_in.Int) args bs) (ReadObjects (ref c.0 ∷ []) ∷ (Answered r ∷ more)) ≡ parts_stands t (NewInt c) r u more
   unfolding parts_job_say
   int-waits = refl
 
-  pub bool-waits : parts_job_say u (ToNative (NewOf built_in.Bool) args bs) (Answered r ∷ more) ≡ parts_job_say u (parts_stands t NewBool).task ((parts_stands t NewBool).told ++ Answered r ∷ more)
+  pub bool-waits : parts_job_say u (ToNative (NewOf built_in.Bool) args bs) (Answered r ∷ more) ≡ parts_stands t NewBool r u more
   unfolding parts_job_say
   bool-waits = refl
 
-  pub str-waits : parts_job_say u (ToNative (NewOf built_in.Str) args bs) (ReadObjects (ref c.0 ∷ []) ∷ (Answered r ∷ more)) ≡ parts_job_say u (parts_stands t (NewStr c)).task ((parts_stands t (NewStr c)).told ++ Answered r ∷ more)
+  pub str-waits : parts_job_say u (ToNative (NewOf built_in.Str) args bs) (ReadObjects (ref c.0 ∷ []) ∷ (Answered r ∷ more)) ≡ parts_stands t (NewStr c) r u more
   unfolding parts_job_say
   str-waits = refl
 
-  pub tuple-waits : parts_job_say u (ToNative (NewOf built_in.Tuple) args bs) (ReadObjects (ref c.0 ∷ []) ∷ (Answered r ∷ more)) ≡ parts_job_say u (parts_stands t (NewTuple c)).task ((parts_stands t (NewTuple c)).told ++ Answered r ∷ more)
+  pub tuple-waits : parts_job_say u (ToNative (NewOf built_in.Tuple) args bs) (ReadObjects (ref c.0 ∷ []) ∷ (Answered r ∷ more)) ≡ parts_stands t (NewTuple c) r u more
   unfolding parts_job_say
   tuple-waits = refl
 
 -- a number or a text was given
 module _ (c : PyTypeRef) (v : PyObjectRef) where
-  int-on : (t : Reading) (u : PlainWorld) → parts_job_say u (parts_stands t (NewInt c)).task ((parts_stands t (NewInt c)).told ++ Answered (value v) ∷ []) ≡ int_made_of u c.0 v
-  unfolding parts_job_say
-  int-on t u = refl
-
-  str-on : (t : Reading) (u : PlainWorld) → parts_job_say u (parts_stands t (NewStr c)).task ((parts_stands t (NewStr c)).told ++ Answered (value v) ∷ []) ≡ str_made u c.0 v
-  unfolding parts_job_say
-  str-on t u = refl
-
   pub int-same : (w : World) → c.0 ≡ the_int → Resumes (NewInt c) (Ok (Value v)) w w (End (Ok (Value v)))
   int-same w is = resumes-end (NewInt c) (Ok (Value v)) w w (Ok (Value v)) (λ t q. q) (λ t.
       let u = plain t w in
-      int-on t u ∙ ap (λ b. cond b (Ends u (value v)) (int_of_class u c.0 (number_of (datum_at u v)))) (eq-eqb c.0 the_int is))
+      ap (λ b. cond b (Ends u (value v)) (int_of_class u c.0 (number_of (datum_at u v)))) (eq-eqb c.0 the_int is))
 
-  int-other : (t : Reading) (u : PlainWorld) (z : Option ℤ) → (c.0 ≡ the_int → ⊥) → number_of (datum_at u v) ≡ z → parts_job_say u (parts_stands t (NewInt c)).task ((parts_stands t (NewInt c)).told ++ Answered (value v) ∷ []) ≡ int_of_class u c.0 z
+  int-other : (t : Reading) (u : PlainWorld) (z : Option ℤ) → (c.0 ≡ the_int → ⊥) → number_of (datum_at u v) ≡ z → parts_stands t (NewInt c) (value v) u [] ≡ int_of_class u c.0 z
   int-other t u z not is =
-      int-on t u
-      ∙ ap (λ b. cond b (Ends u (value v)) (int_of_class u c.0 (number_of (datum_at u v)))) (ne_eqb c.0 the_int not)
+      ap (λ b. cond b (Ends u (value v)) (int_of_class u c.0 (number_of (datum_at u v)))) (ne_eqb c.0 the_int not)
       ∙ ap (int_of_class u c.0) is
 
   pub int-none : (w : World) → (c.0 ≡ the_int → ⊥) → ((t : Reading) → number_of (datum_at (plain t w) v) ≡ None) → Resumes (NewInt c) (Ok (Value v)) w w (End (Err (raised SelfType)))
@@ -97,12 +88,11 @@ module _ (c : PyTypeRef) (v : PyObjectRef) where
   pub str-same : (w : World) → c.0 ≡ the_str → Resumes (NewStr c) (Ok (Value v)) w w (End (Ok (Value v)))
   str-same w is = resumes-end (NewStr c) (Ok (Value v)) w w (Ok (Value v)) (λ t q. q) (λ t.
       let u = plain t w in
-      str-on t u ∙ ap (λ b. cond b (Ends u (value v)) (object_made u c.0 (AText (text_at u v)))) (eq-eqb c.0 the_str is))
+      ap (λ b. cond b (Ends u (value v)) (object_made u c.0 (AText (text_at u v)))) (eq-eqb c.0 the_str is))
 
   pub str-new : (old new : World) (x : Text) (r : PyObjectRef) → (c.0 ≡ the_str → ⊥) → ((t : Reading) → text_at (plain t old) v ≡ x) → ((t : Reading) → Reads t new → Reads t old) → ((t : Reading) → plain t new ≡ with_node (plain t old) c.0 (AText x)) → ((t : Reading) → r ≡ next_node (plain t old) c.0) → Resumes (NewStr c) (Ok (Value v)) old new (End (Ok (Value r)))
   str-new old new x r not is reads made number = resumes-end (NewStr c) (Ok (Value v)) old new (Ok (Value r)) reads (λ t.
       let u = plain t old in
-      str-on t u
-      ∙ ap (λ b. cond b (Ends u (value v)) (object_made u c.0 (AText (text_at u v)))) (ne_eqb c.0 the_str not)
+      ap (λ b. cond b (Ends u (value v)) (object_made u c.0 (AText (text_at u v)))) (ne_eqb c.0 the_str not)
       ∙ ap (λ x. object_made u c.0 (AText x)) (is t)
       ∙ made-so (λ t u. object_made u c.0 (AText x)) old new c.0 (λ t. AText x) r (λ t. refl) made number t)

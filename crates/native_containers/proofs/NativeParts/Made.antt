@@ -1,5 +1,5 @@
 -- How natives start and go on that make an object, or ask what they make it of.
-use Rattle.native_containers.proofs.Below.{◌∙◌, ℕ, List, [], Result, Ok, Err, refl, sym, subst, ap, Raised as Fault, BuiltIn, NativeEntry, NewOf, PyObjectRef, PyStrInterned, Answer, Value, Ask, End, Task, Text, Datum, PlainWorld, Bindings, Ended, Said, Asks, Ends, Told, Answered, ToNative, on_value, pass, value, with_one, next_node, with_node, World, Reading, Reads, bindings, plain, ended_of, task_of, EndsAs, Steps, in_length, object_made, text_made, as_said, with_heir, with_own, PartsKept, Wrapped, Wrapper, Class, Static, with_one_at_most, Resumes, Starts, parts_stands, repr_of_wrapper, parts_job_say, repr_task, text_at, wrapped_in, wrapper_by, wrapper_ends, wrapper_text}
+use Rattle.native_containers.proofs.Below.{◌∙◌, ℕ, List, [], Result, Ok, Err, refl, sym, ap, Raised as Fault, BuiltIn, NativeEntry, NewOf, PyObjectRef, PyStrInterned, Answer, Value, Ask, End, Task, Text, Datum, PlainWorld, Bindings, Ended, Said, Asks, Ends, Told, Answered, ToNative, on_value, pass, value, with_one, next_node, with_node, World, Reading, Reads, bindings, plain, ended_of, task_of, EndsAs, in_length, object_made, text_made, as_said, with_heir, with_own, PartsKept, Wrapped, Wrapper, Class, Static, with_one_at_most, Resumes, Starts, parts_stands, repr_of_wrapper, parts_job_say, repr_task, text_at, wrapped_in, wrapper_by, wrapper_ends, wrapper_text, parts_group, ends-follow, asks-follow, Point}
 use Rattle.std.proofs.Common.{◌≡◌, ◌∷◌, ◌++◌}
 use Rattle.py_node.specs.declared.protocol.ObjectTask.TheVariants as object
 use Rattle.py_node.specs.declared.task.Task.TheVariants as task
@@ -9,16 +9,18 @@ pub made-so : (said : Reading → PlainWorld → Said) (old new : World) (c : �
 made-so said old new c d r says made number = λ t.
     says t ∙ sym (ap (λ v. Ends v (value r)) (made t) ∙ ap (λ m. Ends (with_node (plain t old) c (d t)) (value m)) (number t))
 
+-- the row of a native
+abbrev of_native : NativeEntry → List PyObjectRef → List (PyStrInterned × PyObjectRef) → Reading → Point
+of_native n args kw = λ t u. parts_job_say u (ToNative n args (bindings t kw))
+
 module _ (n : NativeEntry) (args : List PyObjectRef) (kw : List (PyStrInterned × PyObjectRef)) where
   -- a native that ends
   pub starts-end : (old new : World) (r : Result Answer Fault) → ((t : Reading) → Reads t new → Reads t old) → ((t : Reading) → parts_job_say (plain t old) (ToNative n args (bindings t kw)) [] ≡ Ends (plain t new) (ended_of r)) → Starts n args kw old new (End r)
-  starts-end old new r reads says = λ t q.
-      (reads t q, subst (λ s. Steps parts_job_say (parts_stands t) t (ToNative n args (bindings t kw)) [] s (End r) new) (sym (says t)) (refl, refl))
+  starts-end old new r reads says = ends-follow parts_group (of_native n args kw) (λ t u. of_native n args kw t u []) old new r (λ t q. (reads t q, says t))
 
   -- a native that asks
-  pub starts-ask : (w : World) (asked : Task) (kept : PartsKept) (learnt : Told) → ((t : Reading) → parts_job_say (plain t w) (ToNative n args (bindings t kw)) [] ≡ Asks (plain t w) learnt (task_of t asked)) → ((t : Reading) (u : PlainWorld) (r : Ended) (more : Told) → parts_job_say u (ToNative n args (bindings t kw)) (learnt ++ Answered r ∷ more) ≡ parts_job_say u (parts_stands t kept).task ((parts_stands t kept).told ++ Answered r ∷ more)) → Starts n args kw w w (Ask asked kept)
-  starts-ask w asked kept learnt says on = λ t q.
-      (q, subst (λ s. Steps parts_job_say (parts_stands t) t (ToNative n args (bindings t kw)) [] s (Ask asked kept) w) (sym (says t)) (refl, refl, record { says = λ u r more. on t u r more }))
+  pub starts-ask : (w : World) (asked : Task) (kept : PartsKept) (learnt : Told) → ((t : Reading) → parts_job_say (plain t w) (ToNative n args (bindings t kw)) [] ≡ Asks (plain t w) learnt (task_of t asked)) → ((t : Reading) (u : PlainWorld) (r : Ended) (more : Told) → parts_job_say u (ToNative n args (bindings t kw)) (learnt ++ Answered r ∷ more) ≡ parts_stands t kept r u more) → Starts n args kw w w (Ask asked kept)
+  starts-ask w asked kept learnt says on = asks-follow parts_group (of_native n args kw) (λ t u. of_native n args kw t u []) w w learnt asked kept (λ t q. (q, says t)) on
 
 -- what makes an object of a class that derives from a built-in one, of one argument at most
 module _ (b : BuiltIn) (without : PlainWorld → ℕ → Said) (go : PlainWorld → ℕ → PyObjectRef → Said) (args : List PyObjectRef) (kw : List (PyStrInterned × PyObjectRef)) (says : (u : PlainWorld) (bs : Bindings) → parts_job_say u (ToNative (NewOf b) args bs) [] ≡ with_heir u b args (λ c. with_one_at_most u args bs (without u c) (go u c))) (w : World) (c : ℕ) (heir : (t : Reading) (on : ℕ → Said) → with_heir (plain t w) b args on ≡ on c) where
@@ -35,20 +37,17 @@ module _ (b : BuiltIn) (without : PlainWorld → ℕ → Said) (go : PlainWorld 
   maker-alone new r given reads ends =
       starts-end (NewOf b) args kw w new r reads (λ t. heir-said t ∙ given t (plain t w) (without (plain t w) c) (go (plain t w) c) ∙ ends t)
 
-  pub maker-asks : (a : PyObjectRef) (asked : Task) (kept : PartsKept) (learnt : Told) → ((t : Reading) (u : PlainWorld) (alone : Said) (on : PyObjectRef → Said) → with_one_at_most u args (bindings t kw) alone on ≡ on a) → ((t : Reading) → go (plain t w) c a ≡ Asks (plain t w) learnt (task_of t asked)) → ((t : Reading) (u : PlainWorld) (r : Ended) (more : Told) → parts_job_say u (ToNative (NewOf b) args (bindings t kw)) (learnt ++ Answered r ∷ more) ≡ parts_job_say u (parts_stands t kept).task ((parts_stands t kept).told ++ Answered r ∷ more)) → Starts (NewOf b) args kw w w (Ask asked kept)
+  pub maker-asks : (a : PyObjectRef) (asked : Task) (kept : PartsKept) (learnt : Told) → ((t : Reading) (u : PlainWorld) (alone : Said) (on : PyObjectRef → Said) → with_one_at_most u args (bindings t kw) alone on ≡ on a) → ((t : Reading) → go (plain t w) c a ≡ Asks (plain t w) learnt (task_of t asked)) → ((t : Reading) (u : PlainWorld) (r : Ended) (more : Told) → parts_job_say u (ToNative (NewOf b) args (bindings t kw)) (learnt ++ Answered r ∷ more) ≡ parts_stands t kept r u more) → Starts (NewOf b) args kw w w (Ask asked kept)
   maker-asks a asked kept learnt given asks on =
       starts-ask (NewOf b) args kw w asked kept learnt (λ t. heir-said t ∙ given t (plain t w) (without (plain t w) c) (go (plain t w) c) ∙ asks t) on
 
 -- what was kept ends at an answer
 module _ (kept : PartsKept) (answer : Result Answer Fault) where
-  pub resumes-end : (old new : World) (r : Result Answer Fault) → ((t : Reading) → Reads t new → Reads t old) → ((t : Reading) → parts_job_say (plain t old) (parts_stands t kept).task ((parts_stands t kept).told ++ Answered (ended_of answer) ∷ []) ≡ Ends (plain t new) (ended_of r)) → Resumes kept answer old new (End r)
-  resumes-end old new r reads says = λ t q.
-      (reads t q, subst (λ s. Steps parts_job_say (parts_stands t) t (parts_stands t kept).task ((parts_stands t kept).told ++ Answered (ended_of answer) ∷ []) s (End r) new) (sym (says t)) (refl, refl))
+  pub resumes-end : (old new : World) (r : Result Answer Fault) → ((t : Reading) → Reads t new → Reads t old) → ((t : Reading) → parts_stands t kept (ended_of answer) (plain t old) [] ≡ Ends (plain t new) (ended_of r)) → Resumes kept answer old new (End r)
+  resumes-end old new r reads says = ends-follow parts_group (λ t. parts_stands t kept (ended_of answer)) (λ t u. parts_stands t kept (ended_of answer) u []) old new r (λ t q. (reads t q, says t))
 
-  pub resumes-as : (said : Reading → PlainWorld → Said) (old new : World) (r : Result Answer Fault) → ((t : Reading) → parts_job_say (plain t old) (parts_stands t kept).task ((parts_stands t kept).told ++ Answered (ended_of answer) ∷ []) ≡ said t (plain t old)) → EndsAs said old new r → Resumes kept answer old new (End r)
-  resumes-as said old new r says ends = λ t q.
-      let k = ends t q in
-      (k.0, subst (λ s. Steps parts_job_say (parts_stands t) t (parts_stands t kept).task ((parts_stands t kept).told ++ Answered (ended_of answer) ∷ []) s (End r) new) (sym (says t ∙ k.1)) (refl, refl))
+  pub resumes-as : (said : Reading → PlainWorld → Said) (old new : World) (r : Result Answer Fault) → ((t : Reading) → parts_stands t kept (ended_of answer) (plain t old) [] ≡ said t (plain t old)) → EndsAs said old new r → Resumes kept answer old new (End r)
+  resumes-as said old new r says ends = ends-follow parts_group (λ t. parts_stands t kept (ended_of answer)) (λ t u. parts_stands t kept (ended_of answer) u []) old new r (λ t q. let k = ends t q in (k.0, says t ∙ k.1))
 
 -- a class method or a static method
 
@@ -80,9 +79,9 @@ module _ (b : Wrapper) (args : List PyObjectRef) (kw : List (PyStrInterned × Py
         let u = plain t w in
         wrapper-said b args u (bindings t kw)
         ∙ given t (λ f. with_one u args (bindings t kw) (λ p. pass u (repr_task f)))
-        ∙ alone t u (λ p. pass u (repr_task f))) (λ t u r more. wrapper-on b args u (bindings t kw) r more ∙ sym (wrapper-on b [] u [] r more))
+        ∙ alone t u (λ p. pass u (repr_task f))) (λ t u r more. wrapper-on b args u (bindings t kw) r more)
 
 -- what it wraps answered its text
 pub wrapper-ended : (b : Wrapper) (v : PyObjectRef) (x : Text) (old new : World) (r : Result Answer Fault) → ((t : Reading) → in_length (wrapper_text b (text_at (plain t old) v)) ≡ Ok x) → EndsAs (λ t u. text_made u (Ok x)) old new r → Resumes (Wrapped b) (Ok (Value v)) old new (End r)
 wrapper-ended b v x old new r text ends =
-    resumes-as (Wrapped b) (Ok (Value v)) (λ t u. text_made u (Ok x)) old new r (λ t. wrapper-on b [] (plain t old) [] (value v) [] ∙ ap (text_made (plain t old)) (text t)) ends
+    resumes-as (Wrapped b) (Ok (Value v)) (λ t u. text_made u (Ok x)) old new r (λ t. ap (text_made (plain t old)) (text t)) ends

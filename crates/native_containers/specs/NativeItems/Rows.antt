@@ -1,13 +1,12 @@
 -- What the contracts of the natives of items say.
-use Rattle.native_containers.specs.Below.{ℕ, drop, false, List, [], Result, Ok, Option, Some, None, Vec, PyObjectRef, PyStrInterned, Raised as Fault, NativeEntry, OfStr, OfTuple, OfList, OfIterator, IdEq, Answer, Value, Task, Step, Ask, End, PlainWorld, PlainTask, Bindings, ToNative, ReadObjects, Told, Said, ref, truth, Pending, fresh, World, Reading, bindings, task_of, Group, Goes, Follows, Claim, IsNode, AreNodes, Holding, Kind, tuple_made, list_made, items_at}
+use Rattle.native_containers.specs.Below.{ℕ, drop, false, List, [], Result, Ok, Option, Some, None, Vec, PyObjectRef, PyStrInterned, Raised as Fault, NativeEntry, OfTuple, OfList, IdEq, Answer, Value, Task, Step, Ask, End, PlainWorld, Bindings, ToNative, ReadObjects, Told, Said, truth, World, Reading, bindings, task_of, Claim, IsNode, AreNodes, Holding, Kind, tuple_made, list_made, items_at, Ended, on_truth, cond, end, value, true, datum_at}
 use Rattle.std.specs.Prelude.{◌+◌, ◌∷◌}
 use Rattle.py_node.specs.declared.built_in.BuiltIn.TheVariants as built_in
-use Rattle.py_node.specs.declared.entry.StrNative.TheVariants as str
 use Rattle.py_node.specs.declared.entry.TupleNative.TheVariants as tuple
 use Rattle.py_node.specs.declared.entry.ListNative.TheVariants as list
-use Rattle.py_node.specs.declared.entry.IteratorNative.TheVariants as iterator
 use Rattle.py_node.specs.declared.task.Task.TheVariants as task
-use Rattle.class_world.specs.Rows as rows
+use Rattle.row_kit.specs.Points as points
+use Rattle.row_kit.specs.Points.{Group, Point}
 use Rattle.row_kit.specs.declared.take_containers.Kind.TheVariants as kind
 use Rattle.native_containers.specs.declared.native_items.get.Sequence.{Sequence}
 use Rattle.native_containers.specs.declared.native_items.get.Sequence.TheVariants as sequence
@@ -15,6 +14,8 @@ use Rattle.native_containers.specs.declared.native_items.next.Found.{Found}
 use Rattle.native_containers.specs.declared.native_items.next.Found.TheVariants.{Item}
 use Rattle.native_containers.specs.declared.native_items.ItemKept.{ItemKept}
 use Rattle.native_containers.specs.declared.native_items.ItemKept.TheVariants.{Getting, GettingCharacter, Setting, Deleting, Extending, Searching, Iterating}
+use Rattle.native_containers.specs.NativeItems.Items.{char_rest, chars_at, del_rest, extend_rest, is_among, item_got, set_rest}
+use Rattle.native_containers.specs.NativeItems.Iterators.{iterator_in, next_rest}
 use Rattle.native_containers.specs.NativeItems.Say.{item_job_say}
 
 -- the items that were read at the start, if they were
@@ -31,16 +32,16 @@ abbrev pub of_stood : Option (Vec PyObjectRef) → List Claim
 of_stood None = []
 of_stood (Some rs) = AreNodes rs.items ∷ []
 
--- the row that goes on, at each answer, just as the row that the code keeps this for
-abbrev pub item_stands : Reading → ItemKept → Pending PlainTask
-item_stands t (Getting o stood) = record { task = ToNative (OfTuple tuple.GetItem) (o ∷ ref 0 ∷ []) []; told = stood_told stood }
-item_stands t (GettingCharacter o) = record { task = ToNative (OfStr str.GetItem) (o ∷ ref 0 ∷ []) []; told = [] }
-item_stands t (Setting o k v stood) = record { task = ToNative (OfList list.SetItem) (o ∷ k ∷ v ∷ []) []; told = stood_told stood }
-item_stands t (Deleting o stood) = record { task = ToNative (OfList list.DelItem) (o ∷ ref 0 ∷ []) []; told = stood_told stood }
-item_stands t (Extending o stood) = record { task = ToNative (OfList list.InplaceAdd) (o ∷ ref 0 ∷ []) []; told = stood_told stood }
-item_stands t (Searching x items next) =
-    record { task = ToNative (OfTuple tuple.Contains) (ref 0 ∷ x ∷ []) []; told = ReadObjects (ref 0 ∷ drop next items.items) ∷ [] }
-item_stands t (Iterating o) = record { task = ToNative (OfIterator iterator.Next) (o ∷ []) []; told = [] }
+-- what is done with the answer where this is kept
+abbrev pub item_stands : Reading → ItemKept → Ended → Point
+item_stands t (Getting o stood) r w = item_got w (items_stood w stood o) r
+item_stands t (GettingCharacter o) r w = char_rest w (chars_at w o) r
+item_stands t (Setting o k v stood) r w = set_rest w o k v (items_stood w stood o) r
+item_stands t (Deleting o stood) r w = del_rest w o (items_stood w stood o) r
+item_stands t (Extending o stood) r w = extend_rest w o (items_stood w stood o) r
+item_stands t (Searching x items next) r w =
+    on_truth w r (λ b. cond b (end w (value (truth true))) (is_among w x (drop next items.items)))
+item_stands t (Iterating o) r w = next_rest w o (iterator_in (datum_at w o)) r
 
 -- what is said of what is kept
 abbrev pub of_item_kept : ItemKept → List Claim
@@ -52,24 +53,24 @@ of_item_kept (Extending o stood) = IsNode o ∷ Holding o built_in.List ∷ of_s
 of_item_kept (Searching x items next) = IsNode x ∷ AreNodes items.items ∷ []
 of_item_kept (Iterating o) = IsNode o ∷ Holding o built_in.Iterator ∷ []
 
--- the group: its jobs, what they say, what goes on, and what is claimed of that
-abbrev pub item_group : Group Task PlainTask ItemKept
-item_group = record { job = task_of; say = item_job_say; stands = item_stands; claims = of_item_kept }
+-- the group: the row of a task, and what is done with an answer
+abbrev pub item_group : Group Task ItemKept
+item_group = record { row = λ t task w. item_job_say w (task_of t task); stands = item_stands }
 
 abbrev pub Begins : Task → World → World → Step ItemKept → Type 0
-Begins = rows.Begins item_group
+Begins = points.Begins item_group
 
 abbrev pub Resumes : ItemKept → Result Answer Fault → World → World → Step ItemKept → Type 0
-Resumes = rows.Resumes item_group
+Resumes = points.Resumes item_group
 
 -- the first step of a native
 abbrev pub Enters : NativeEntry → List PyObjectRef → List (PyStrInterned × PyObjectRef) → World → World → Step ItemKept → Type 0
-Enters n args kw old new step = Goes item_job_say item_stands (λ t. fresh (ToNative n args (bindings t kw))) old new step
+Enters n args kw old new step = points.Goes item_group (λ t w. item_job_say w (ToNative n args (bindings t kw))) old new step
 
 -- a native does so with these arguments
 abbrev pub Does : NativeEntry → List PyObjectRef → (Reading → PlainWorld → Said) → World → World → Step ItemKept → Type 0
 Does n args said old new step =
-    (kw : Reading → Bindings) → Follows item_job_say item_stands (λ t. fresh (ToNative n args (kw t))) said old new step
+    (kw : Reading → Bindings) → points.Follows item_group (λ t w. item_job_say w (ToNative n args (kw t))) said old new step
 
 -- what is said of what an object has at a place
 abbrev pub of_found : Found → List Claim

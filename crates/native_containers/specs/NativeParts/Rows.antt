@@ -1,12 +1,13 @@
 -- What the contracts of the natives say that ask for parts.
-use Rattle.native_containers.specs.Below.{pos, List, [], drop, map, Option, Some, None, Result, Ok, PyObjectRef, PyStrInterned, Raised as Fault, NativeEntry, OfTuple, OfList, OfDict, OfWrapper, NewOf, Answer, Number, Value, Task, Step, Ask, End, PlainWorld, PlainTask, ToNative, Ended, Fact, Answered, ReadObjects, Told, Said, Asks, Ends, ref, Row, none, value, Pending, fresh, World, Reading, Reads, bindings, ended_of, plain, task_of, Goes, Group, Claim, AreNodes, IsClass, IsNode, IsOf, Holding, number}
-use Rattle.std.specs.Prelude.{◌≡◌, ◌-ℤ◌, ◌∷◌, ◌++◌}
+use Rattle.native_containers.specs.Below.{List, [], drop, Option, Some, None, Result, Ok, PyObjectRef, PyStrInterned, Raised as Fault, NativeEntry, OfTuple, OfList, OfDict, OfWrapper, Answer, Number, Value, Task, Step, ToNative, Ended, Said, value, World, Reading, bindings, task_of, Claim, AreNodes, IsClass, IsNode, IsOf, Holding, number, on_value, on_number, on_truth, on_objects, as_said, end, truth, object_made, ATuple}
+use Rattle.std.specs.Prelude.{◌∷◌, ◌++◌}
 use Rattle.py_node.specs.declared.built_in.BuiltIn.TheVariants as built_in
 use Rattle.py_node.specs.declared.entry.TupleNative.TheVariants as tuple
 use Rattle.py_node.specs.declared.entry.ListNative.TheVariants as list
 use Rattle.py_node.specs.declared.entry.DictNative.TheVariants as dict
 use Rattle.py_node.specs.declared.entry.WrapperNative.TheVariants as wrapper
-use Rattle.class_world.specs.Rows as rows
+use Rattle.row_kit.specs.Points as points
+use Rattle.row_kit.specs.Points.{Group, Point}
 use Rattle.native_containers.specs.declared.native_parts.PartsKept.{PartsKept}
 use Rattle.native_containers.specs.declared.native_parts.PartsKept.TheVariants.{Texts, Hashes, Wrapped, NewInt, NewBool, NewStr, NewTuple, Filling}
 use Rattle.native_containers.specs.declared.native_parts.hash.Hashing.{Hashing}
@@ -16,6 +17,9 @@ use Rattle.native_containers.specs.declared.native_parts.texts.Parts.{Parts}
 use Rattle.native_containers.specs.declared.native_parts.wrapped.Wrapper.{Wrapper}
 use Rattle.native_containers.specs.declared.native_parts.wrapped.Wrapper.TheVariants.{Class, Static}
 use Rattle.native_containers.specs.NativeParts.Say.{parts_job_say}
+use Rattle.native_containers.specs.NativeParts.Makers.{list_filled, str_made}
+use Rattle.native_containers.specs.NativeParts.Numbers.{int_made_of}
+use Rattle.native_containers.specs.NativeParts.Texts.{hash_row, hashed_on, text_row, wrapper_ends}
 
 -- the native that gives a container's text, and that of a class method or a static method
 abbrev pub repr_of : Container → NativeEntry
@@ -34,22 +38,16 @@ left parts = drop parts.next parts.items.items
 abbrev pub left_to_hash : Hashing → List PyObjectRef
 left_to_hash hashing = drop hashing.next hashing.items.items
 
--- the value of a part, as it was learnt
-abbrev pub answered : PyObjectRef → Fact
-answered v = Answered (value v)
-
--- the row that goes on, at each answer, just as the row that the code keeps this for
-abbrev pub parts_stands : Reading → PartsKept → Pending PlainTask
-parts_stands t (Texts c parts) =
-    record { task = ToNative (repr_of c) [] []; told = ReadObjects (parts.texts.items ++ (none ∷ left parts)) ∷ map answered parts.texts.items }
-parts_stands t (Hashes hashing) =
-    record { task = ToNative (OfTuple tuple.Hash) [] []; told = ReadObjects (none ∷ none ∷ left_to_hash hashing) ∷ (Answered (number (hashing.hash -ℤ pos 31)) ∷ []) }
-parts_stands t (Wrapped b) = record { task = ToNative (repr_of_wrapper b) [] []; told = [] }
-parts_stands t (NewInt c) = record { task = ToNative (NewOf built_in.Int) [] []; told = ReadObjects (ref c.0 ∷ []) ∷ [] }
-parts_stands t NewBool = record { task = ToNative (NewOf built_in.Bool) [] []; told = [] }
-parts_stands t (NewStr c) = record { task = ToNative (NewOf built_in.Str) [] []; told = ReadObjects (ref c.0 ∷ []) ∷ [] }
-parts_stands t (NewTuple c) = record { task = ToNative (NewOf built_in.Tuple) [] []; told = ReadObjects (ref c.0 ∷ []) ∷ [] }
-parts_stands t (Filling o) = record { task = ToNative (OfList list.Init) [] []; told = ReadObjects (o ∷ []) ∷ [] }
+-- what is done with the answer where this is kept
+abbrev pub parts_stands : Reading → PartsKept → Ended → Point
+parts_stands t (Texts c parts) r w = on_value w r (λ v. text_row w c (parts.texts.items ++ v ∷ []) (left parts))
+parts_stands t (Hashes hashing) r w = on_number w r (λ n. hash_row w (hashed_on hashing.hash n) (left_to_hash hashing))
+parts_stands t (Wrapped b) r w = on_value w r (λ v. as_said (wrapper_ends w b v))
+parts_stands t (NewInt c) r w = on_value w r (λ i. as_said (int_made_of w c.0 i))
+parts_stands t NewBool r w = on_truth w r (λ b. end w (value (truth b)))
+parts_stands t (NewStr c) r w = on_value w r (λ v. as_said (str_made w c.0 v))
+parts_stands t (NewTuple c) r w = on_objects w r (λ is. as_said (object_made w c.0 (ATuple is)))
+parts_stands t (Filling o) r w = on_objects w r (λ is. as_said (list_filled w o is))
 
 -- what is said of what is kept
 abbrev pub of_parts : Parts → List Claim
@@ -65,30 +63,23 @@ of_parts_kept (NewStr c) = IsClass c.0 ∷ IsOf c.0 built_in.Str ∷ []
 of_parts_kept (NewTuple c) = IsClass c.0 ∷ IsOf c.0 built_in.Tuple ∷ []
 of_parts_kept (Filling o) = IsNode o ∷ Holding o built_in.List ∷ []
 
--- the group: its jobs, what they say, what goes on, and what is claimed of that
-abbrev pub parts_group : Group Task PlainTask PartsKept
-parts_group = record { job = task_of; say = parts_job_say; stands = parts_stands; claims = of_parts_kept }
+-- the group: the row of a task, and what is done with an answer
+abbrev pub parts_group : Group Task PartsKept
+parts_group = record { row = λ t task w. parts_job_say w (task_of t task); stands = parts_stands }
+
+-- the step from a point of a row
+abbrev pub Goes : (Reading → Point) → World → World → Step PartsKept → Type 0
+Goes = points.Goes parts_group
 
 abbrev pub Begins : Task → World → World → Step PartsKept → Type 0
-Begins = rows.Begins parts_group
+Begins = points.Begins parts_group
 
 abbrev pub Resumes : PartsKept → Result Answer Fault → World → World → Step PartsKept → Type 0
-Resumes = rows.Resumes parts_group
+Resumes = points.Resumes parts_group
 
 -- the first step of a native
 abbrev pub Starts : NativeEntry → List PyObjectRef → List (PyStrInterned × PyObjectRef) → World → World → Step PartsKept → Type 0
-Starts n args kw = Goes parts_job_say parts_stands (λ t. fresh (ToNative n args (bindings t kw)))
-
--- a step is what a row of its own says first. What is kept stands for a native that goes on as that row does
-abbrev pub TakesAt : (PlainWorld → Row) → Reading → Said → Step PartsKept → World → Type 0
-TakesAt row t (Asks w learnt other) (Ask asked kept) new =
-    (task_of t asked ≡ other) × (plain t new ≡ w) × ((u : PlainWorld) (r : Ended) (more : Told) → row u (learnt ++ Answered r ∷ more) ≡ parts_job_say u (parts_stands t kept).task ((parts_stands t kept).told ++ Answered r ∷ more))
-TakesAt row t (Asks w learnt other) (End r) new = ⊥
-TakesAt row t (Ends w r) (Ask asked kept) new = ⊥
-TakesAt row t (Ends w r) (End s) new = (ended_of s ≡ r) × (plain t new ≡ w)
-
-abbrev pub Takes : (PlainWorld → Row) → World → World → Step PartsKept → Type 0
-Takes row old new step = (t : Reading) → Reads t new → Reads t old × TakesAt row t (row (plain t old) []) step new
+Starts n args kw = Goes (λ t u. parts_job_say u (ToNative n args (bindings t kw)))
 
 -- an answer that is no object, and one that is no number
 abbrev pub IsNoObject : Result Answer Fault → Type 0

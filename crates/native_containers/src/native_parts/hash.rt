@@ -3,7 +3,7 @@
 ghost use Rattle.native_containers.specs.Below.{Ok, IfErr, IfOk, OfTuple, of_ended, of_step, Leaves, AllHold, AreNodes, Holds};
 ghost use Rattle.std.specs.Prelude.{◌≡◌};
 ghost use Rattle.py_node.specs.declared.entry.TupleNative.TheVariants as tuple;
-ghost use Rattle.native_containers.specs.NativeParts.Rows.{IsNoNumber, Resumes, Starts, Takes, left_to_hash, of_parts_kept};
+ghost use Rattle.native_containers.specs.NativeParts.Rows.{Goes, IsNoNumber, Resumes, Starts, left_to_hash, of_parts_kept};
 ghost use Rattle.native_containers.specs.NativeParts.Texts.{hash_row, hashed_on};
 
 use crate::native_parts::PartsKept;
@@ -47,7 +47,7 @@ pub(crate) fn begin_hash(world: &World, call: FuncArgs<'_>) -> Result<Step<Parts
 // Asks the next item for its hash, or ends with that of all.
 fn next_hash(world: &World, hashing: Hashing) -> Step<PartsKept>
     requires { Holds world.now (AreNodes hashing.items.items) }
-    ensures goes { Takes (λ u. hash_row u hashing.hash (left_to_hash hashing)) world.now world.now result }
+    ensures goes { Goes (λ t u. hash_row u hashing.hash (left_to_hash hashing)) world.now world.now result }
     ensures safe { AllHold world.now (of_step of_parts_kept result) }
 {
     match part_at(&hashing.items, hashing.next) {

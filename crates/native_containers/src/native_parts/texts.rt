@@ -3,7 +3,7 @@
 ghost use Rattle.py_node.specs.Stops.{Ended, IfRaised};
 ghost use Rattle.native_containers.specs.Below.{Ok, Err, IfErr, IfOk, OnOk, string_bytes, of_ended, Leaves, Reading, plain, EndsAs, LeavesEnd, AllHold, AreNodes, Holds, IsNode, in_length};
 ghost use Rattle.std.specs.Prelude.{◌≡◌, ◌++◌};
-ghost use Rattle.native_containers.specs.NativeParts.Rows.{IsNoObject, Resumes, Starts, Takes, left, of_parts, of_parts_kept, repr_of};
+ghost use Rattle.native_containers.specs.NativeParts.Rows.{Goes, IsNoObject, Resumes, Starts, left, of_parts, of_parts_kept, repr_of};
 ghost use Rattle.native_containers.specs.NativeParts.Texts.{before, closing, container_text, opening, text_at, text_ends, text_row, texts_at};
 
 use crate::native_parts::PartsKept;
@@ -57,7 +57,7 @@ fn next_text(
 ) -> Result<Step<PartsKept>, OutOfMemory>
     requires { AllHold world.old (of_parts parts) }
     ensures goes { IfOk result (λ step.
-        Takes (λ u. text_row u container parts.texts.items (left parts)) world.old world.new step) }
+        Goes (λ t u. text_row u container parts.texts.items (left parts)) world.old world.new step) }
     ensures safe { Leaves of_parts_kept world.old world.new result }
 {
     match part_at(&parts.items, parts.next) {

@@ -1,5 +1,5 @@
 -- How the steps of natives that ask follow from what their parts do.
-use Rattle.proto_attr.proofs.Below.{◌∙◌, List, [], Ok, Err, IfOk, refl, sym, subst, ap, ap₂, Raised as Fault, NativeEntry, NewOf, OutOfMemory, Get, Doc, known_text, PyTypeRef, PyStrInterned, PyObjectRef, Answer, Task, Step, Ask, End, PlainWorld, Said, Asks, Ends, Ended, Told, Answered, ReadObjects, DoGetAttr, DoSuperCheck, ToAttribute, ToDescriptor, ToNative, ref, World, Reading, Reads, bindings, plain, task_of, ended_of, EndsAs, Goes, Steps, fresh, EndsSo, StepsAs, class_method_by, start_asked, super_bound, none, named_end, Value, AfterDoc, Answering, Binding, NativeKept, ClassMethod, Super, Way, Binds, Marked, Wraps, Wrapper, Class, Static, asking_job_say, asking_rest, by_way, class_of_wrapper, none_end, none_said, way_of, way_rest, answering, asking_stands, marking}
+use Rattle.proto_attr.proofs.Below.{◌∙◌, Bindings, List, [], Ok, Err, IfOk, refl, sym, ap, Raised as Fault, NativeEntry, OutOfMemory, Get, Doc, known_text, PyTypeRef, PyStrInterned, PyObjectRef, Answer, Task, Step, Ask, End, PlainWorld, Said, Asks, Ends, Ended, Told, ReadObjects, DoGetAttr, DoSuperCheck, ToAttribute, ToDescriptor, ToNative, ref, World, Reading, Reads, bindings, plain, task_of, ended_of, EndsAs, Goes, StepsAs, class_method_by, start_asked, super_bound, none, named_end, Value, AfterDoc, Answering, Binding, NativeKept, ClassMethod, Super, Way, Binds, Marked, Wraps, Wrapper, asking_job_say, by_way, none_end, none_said, way_of, way_rest, answering, asking_stands, marking, native_group, asks-follow, ends-follow, read-follows}
 use Rattle.std.proofs.Common.{◌≡◌, ◌∷◌, ◌++◌, Result}
 use Rattle.py_node.specs.Stops.{Ended as Stopped}
 use Rattle.py_node.specs.declared.stop.Stop.{Stop}
@@ -8,43 +8,23 @@ use Rattle.proto_attr.specs.ProtoDescr.Rows as descriptors
 use Rattle.proto_attr.specs.declared.native_calls.NativeKept.TheVariants.{Pass, AfterGet}
 use Rattle.proto_attr.specs.declared.native_calls.NativeKept.TheVariants as kept
 use Rattle.proto_attr.specs.NativeCalls.Asks.{Does, Resumes, passed}
-
-ends-so : (s : Said) (r : Result Answer Fault) (new : PlainWorld) → EndsSo s r new → s ≡ Ends new (ended_of r)
-ends-so (Asks w learnt task) r new h = absurd h
-ends-so (Ends w s) r new h = ap₂ (λ (u : PlainWorld) (e : Ended). Ends u e) (sym h.1) (sym h.0)
-
--- what a descriptor's row ends with, a native ends with
-pub descriptor-ends : (said : Reading → PlainWorld → Said) (old new : World) (r : Result Answer Fault) → descriptors.EndsAs said old new r → EndsAs said old new r
-descriptor-ends said old new r h = λ t reads.
-    let e = h t reads in (e.0, ends-so (said t (plain t old)) r (plain t new) e.1)
+use Rattle.proto_attr.proofs.ProtoDescr.Steps.{descriptor-ends}
+use Rattle.row_kit.specs.Points.{Point}
 
 -- a native that goes on with a step that keeps nothing, where a class method was given `__get__` of what it wraps
 pub passed-resumes : (k f : PyObjectRef) (r : Result Answer Fault) (old new : World) (step : Step (Unit {0})) → StepsAs (λ t w. class_method_by w k f (ended_of r)) old new step → Resumes (AfterGet k f) r old new (passed step)
-unfolding asking_job_say
-passed-resumes k f r old new (Ask asked kept) h = λ t q.
-    let e = h t q in
-    let p = asking_stands t (AfterGet k f) in
-    (e.0, subst (λ s. Steps asking_job_say (asking_stands t) t p.task (p.told ++ Answered (ended_of r) ∷ []) s (Ask asked Pass) new) (sym e.1) (refl, refl, record { says = λ w s more. refl }))
-passed-resumes k f r old new (End s) h = λ t q.
-    let e = h t q in
-    let p = asking_stands t (AfterGet k f) in
-    (e.0, subst (λ said. Steps asking_job_say (asking_stands t) t p.task (p.told ++ Answered (ended_of r) ∷ []) said (End s) new) (sym e.1) (refl, refl))
+passed-resumes k f r old new (Ask asked kept) h = asks-follow native_group (λ t. asking_stands t (AfterGet k f) (ended_of r)) (λ t w. class_method_by w k f (ended_of r)) old new [] asked Pass h (λ t u s more. refl)
+passed-resumes k f r old new (End s) h = ends-follow native_group (λ t. asking_stands t (AfterGet k f) (ended_of r)) (λ t w. class_method_by w k f (ended_of r)) old new s h
 
 -- a `super` that goes on with its class and the object, given where it starts
 pub super-resumes : (c : PyTypeRef) (o : PyObjectRef) (r : Result Answer Fault) (old new : World) (s : Result Answer Fault) → descriptors.EndsAs (λ t w. super_bound w (ref c.0) o (ended_of r)) old new s → Resumes (Binding c o) r old new (End s)
-unfolding asking_job_say
-super-resumes c o r old new s h = λ t q.
-    let e = descriptor-ends (λ t w. super_bound w (ref c.0) o (ended_of r)) old new s h t q in
-    let p = asking_stands t (Binding c o) in
-    (e.0, subst (λ said. Steps asking_job_say (asking_stands t) t p.task (p.told ++ Answered (ended_of r) ∷ []) said (End s) new) (sym e.1) (refl, refl))
+super-resumes c o r old new s h =
+    let said = λ (t : Reading). λ (w : PlainWorld). super_bound w (ref c.0) o (ended_of r) in
+    ends-follow native_group (λ t. asking_stands t (Binding c o) (ended_of r)) said old new s (descriptor-ends said old new s h)
 
 -- a native that goes on where nothing is kept, and ends as it was told
 pub told-resumes : (r : Result Answer Fault) (old new : World) (s : Result Answer Fault) → EndsAs (λ t u. named_end u (ended_of r) []) old new s → Resumes Pass r old new (End s)
-unfolding asking_job_say
-told-resumes r old new s h = λ t q.
-    let e = h t q in
-    let p = asking_stands t Pass in
-    (e.0, subst (λ said. Steps asking_job_say (asking_stands t) t p.task (p.told ++ Answered (ended_of r) ∷ []) said (End s) new) (sym e.1) (refl, refl))
+told-resumes r old new s h = ends-follow native_group (λ t. asking_stands t Pass (ended_of r)) (λ t u. named_end u (ended_of r) []) old new s h
 
 -- what is said is what is said of what it takes
 
@@ -60,79 +40,70 @@ taken-steps said other old new (Ok x) same h = λ t q.
     let e = h t q in (e.0, same t ∙ e.1)
 taken-steps said other old new (Err x) same h = tt
 
+-- the row of a native
+abbrev of_native : NativeEntry → List PyObjectRef → (Reading → Bindings) → Reading → Point
+of_native n args kw = λ t u. asking_job_say u (ToNative n args (kw t))
+
 -- a native that ends at once
 pub ends-does : (n : NativeEntry) (said : Reading → PlainWorld → Said) (w : World) (r : Result Answer Fault) → ((t : Reading) → said t (plain t w) ≡ Ends (plain t w) (ended_of r)) → Does n said w w (End r)
-ends-does n said w r same = λ args kw t q.
-    (q, subst (λ s. Steps asking_job_say (asking_stands t) t (ToNative n args (kw t)) [] s (End r) w) (sym (same t)) (refl, refl))
+ends-does n said w r same = λ args kw. ends-follow native_group (of_native n args kw) said w w r (λ t q. (q, same t))
 
 -- and one that changes the world before it ends
 pub ended-does : (n : NativeEntry) (said : Reading → PlainWorld → Said) (old new : World) (r : Result Answer Fault) → EndsAs said old new r → Does n said old new (End r)
-ended-does n said old new r h = λ args kw t q.
-    let e = h t q in
-    (e.0, subst (λ s. Steps asking_job_say (asking_stands t) t (ToNative n args (kw t)) [] s (End r) new) (sym e.1) (refl, refl))
+ended-does n said old new r h = λ args kw. ends-follow native_group (of_native n args kw) said old new r h
 
 -- a class method that asks for `__get__` of what it wraps
 pub class-does : (n : NativeEntry) (said : Reading → PlainWorld → Said) (w : World) (k f : PyObjectRef) (asked : Task) → way_of n ≡ Binds ClassMethod → ((t : Reading) → said t (plain t w) ≡ Asks (plain t w) (ReadObjects (k ∷ f ∷ []) ∷ []) (ToAttribute (DoGetAttr f (known_text Get)))) → ((t : Reading) → Reads t w → task_of t asked ≡ ToAttribute (DoGetAttr f (known_text Get))) → Does n said w w (Ask asked (AfterGet k f))
 unfolding asking_job_say
-class-does n said w k f asked way same task = λ args kw t q.
-    (q, subst (λ s. Steps asking_job_say (asking_stands t) t (ToNative n args (kw t)) [] s (Ask asked (AfterGet k f)) w) (sym (same t)) (task t q, refl, record { says = λ u s more. ap (λ y. way_rest u (k ∷ f ∷ []) y s more) way }))
+class-does n said w k f asked way same task = λ args kw.
+    asks-follow native_group (of_native n args kw) said w w (ReadObjects (k ∷ f ∷ []) ∷ []) asked (AfterGet k f) (λ t q. (q, same t ∙ ap (Asks (plain t w) (ReadObjects (k ∷ f ∷ []) ∷ [])) (sym (task t q))))
+    (λ t u s more. ap (λ y. way_rest u (k ∷ f ∷ []) y s more) way)
 
 -- a `super` that is told where to start for an object
 pub super-does : (n : NativeEntry) (said : Reading → PlainWorld → Said) (w : World) (m : PyObjectRef) (c : PyTypeRef) (o : PyObjectRef) (asked : Task) → way_of n ≡ Binds Super → ((t : Reading) → said t (plain t w) ≡ start_asked (plain t w) m c.0 o) → ((t : Reading) → task_of t asked ≡ ToDescriptor (DoSuperCheck c.0 o)) → Does n said w w (Ask asked (Binding c o))
 unfolding asking_job_say
-super-does n said w m c o asked way same task = λ args kw t q.
-    (q, subst (λ s. Steps asking_job_say (asking_stands t) t (ToNative n args (kw t)) [] s (Ask asked (Binding c o)) w) (sym (same t)) (task t, refl, record { says = λ u s more. ap (λ y. way_rest u (m ∷ ref c.0 ∷ o ∷ []) y s more) way }))
+super-does n said w m c o asked way same task = λ args kw.
+    asks-follow native_group (of_native n args kw) said w w (ReadObjects (m ∷ ref c.0 ∷ o ∷ []) ∷ []) asked (Binding c o) (λ t q. (q, same t ∙ ap (Asks (plain t w) (ReadObjects (m ∷ ref c.0 ∷ o ∷ []) ∷ [])) (sym (task t))))
+    (λ t u s more. ap (λ y. way_rest u (m ∷ ref c.0 ∷ o ∷ []) y s more) way)
 
 -- a native that asks what it ends as, where its way reads nothing before that
 pub passed-does : (n : NativeEntry) (said : Reading → PlainWorld → Said) (way : Way) (old new : World) (step : Step (Unit {0})) → way_of n ≡ way → ((u : PlainWorld) (s : Ended) (more : Told) → way_rest u [] way s more ≡ named_end u s more) → StepsAs said old new step → Does n said old new (passed step)
 unfolding asking_job_say
-passed-does n said way old new (Ask asked kept) is ends h = λ args kw t q.
-    let e = h t q in
-    (e.0, subst (λ s. Steps asking_job_say (asking_stands t) t (ToNative n args (kw t)) [] s (Ask asked Pass) new) (sym e.1) (refl, refl, record { says = λ u s more. ap (λ y. way_rest u [] y s more) is ∙ ends u s more }))
-passed-does n said way old new (End r) is ends h = λ args kw t q.
-    let e = h t q in
-    (e.0, subst (λ s. Steps asking_job_say (asking_stands t) t (ToNative n args (kw t)) [] s (End r) new) (sym e.1) (refl, refl))
+passed-does n said way old new (Ask asked kept) is ends h = λ args kw.
+    asks-follow native_group (of_native n args kw) said old new [] asked Pass h (λ t u s more. ap (λ y. way_rest u [] y s more) is ∙ ends u s more)
+passed-does n said way old new (End r) is ends h = λ args kw. ends-follow native_group (of_native n args kw) said old new r h
 
 -- one that tells whether another object is abstract
 pub marking-does : (n : NativeEntry) (said : Reading → PlainWorld → Said) (b : Wrapper) (old new : World) (step : Step (Unit {0})) → way_of n ≡ Marked b → StepsAs said old new step → Does n said old new (marking step)
 unfolding asking_job_say
-marking-does n said b old new (Ask asked held) is h = λ args kw t q.
-    let e = h t q in
-    (e.0, subst (λ s. Steps asking_job_say (asking_stands t) t (ToNative n args (kw t)) [] s (Ask asked kept.Marked) new) (sym e.1) (refl, refl, record { says = λ u s more. ap (λ y. way_rest u [] y s more) is }))
-marking-does n said b old new (End r) is h = λ args kw t q.
-    let e = h t q in
-    (e.0, subst (λ s. Steps asking_job_say (asking_stands t) t (ToNative n args (kw t)) [] s (End r) new) (sym e.1) (refl, refl))
+marking-does n said b old new (Ask asked held) is h = λ args kw.
+    asks-follow native_group (of_native n args kw) said old new [] asked kept.Marked h (λ t u s more. ap (λ y. way_rest u [] y s more) is)
+marking-does n said b old new (End r) is h = λ args kw. ends-follow native_group (of_native n args kw) said old new r h
 
 -- and one that answers None
 pub answering-does : (n : NativeEntry) (said : Reading → PlainWorld → Said) (way : Way) (old new : World) (step : Step (Unit {0})) → way_of n ≡ way → ((u : PlainWorld) (s : Ended) (more : Told) → way_rest u [] way s more ≡ none_end u s more) → StepsAs said old new step → Does n (λ t u. none_said (said t u)) old new (answering step)
 unfolding asking_job_say
-answering-does n said way old new (Ask asked kept) is ends h = λ args kw t q.
-    let e = h t q in
-    (e.0, subst (λ s. Steps asking_job_say (asking_stands t) t (ToNative n args (kw t)) [] (none_said s) (Ask asked Answering) new) (sym e.1) (refl, refl, record { says = λ u s more. ap (λ y. way_rest u [] y s more) is ∙ ends u s more }))
-answering-does n said way old new (End (Ok a)) is ends h = λ args kw t q.
-    let e = h t q in
-    (e.0, subst (λ s. Steps asking_job_say (asking_stands t) t (ToNative n args (kw t)) [] (none_said s) (End (Ok (Value none))) new) (sym e.1) (refl, refl))
-answering-does n said way old new (End (Err x)) is ends h = λ args kw t q.
-    let e = h t q in
-    (e.0, subst (λ s. Steps asking_job_say (asking_stands t) t (ToNative n args (kw t)) [] (none_said s) (End (Err x)) new) (sym e.1) (refl, refl))
+answering-does n said way old new (Ask asked kept) is ends h = λ args kw.
+    asks-follow native_group (of_native n args kw) (λ t u. none_said (said t u)) old new [] asked Answering (λ t q. let e = h t q in (e.0, ap none_said e.1)) (λ t u s more. ap (λ y. way_rest u [] y s more) is ∙ ends u s more)
+answering-does n said way old new (End (Ok a)) is ends h = λ args kw.
+    ends-follow native_group (of_native n args kw) (λ t u. none_said (said t u)) old new (Ok (Value none)) (λ t q. let e = h t q in (e.0, ap none_said e.1))
+answering-does n said way old new (End (Err x)) is ends h = λ args kw.
+    ends-follow native_group (of_native n args kw) (λ t u. none_said (said t u)) old new (Err x) (λ t q. let e = h t q in (e.0, ap none_said e.1))
 
 -- a new class method or static method that asks for the doc of what it is to wrap
 pub doc-does : (n : NativeEntry) (said : Reading → PlainWorld → Said) (w : World) (b : Wrapper) (c : PyTypeRef) (f : PyObjectRef) (asked : Task) → way_of n ≡ Wraps b → ((t : Reading) → said t (plain t w) ≡ Asks (plain t w) (ReadObjects (ref c.0 ∷ f ∷ []) ∷ []) (ToAttribute (DoGetAttr f (known_text Doc)))) → ((t : Reading) → Reads t w → task_of t asked ≡ ToAttribute (DoGetAttr f (known_text Doc))) → Does n said w w (Ask asked (AfterDoc b c f))
 unfolding asking_job_say
-doc-does n said w b c f asked way same task = λ args kw t q.
-    (q, subst (λ s. Steps asking_job_say (asking_stands t) t (ToNative n args (kw t)) [] s (Ask asked (AfterDoc b c f)) w) (sym (same t)) (task t q, refl, record { says = λ u s more. ap (λ y. way_rest u (ref c.0 ∷ f ∷ []) y s more) way ∙ sym (waits u b c f s more) }))
-  where
-    waits : (u : PlainWorld) (b : Wrapper) (c : PyTypeRef) (f : PyObjectRef) (s : Ended) (more : Told) → asking_rest u (NewOf (class_of_wrapper b)) (ref c.0 ∷ f ∷ []) s more ≡ way_rest u (ref c.0 ∷ f ∷ []) (Wraps b) s more
-    waits u Class c f s more = refl
-    waits u Static c f s more = refl
+doc-does n said w b c f asked way same task = λ args kw.
+    asks-follow native_group (of_native n args kw) said w w (ReadObjects (ref c.0 ∷ f ∷ []) ∷ []) asked (AfterDoc b c f) (λ t q. (q, same t ∙ ap (Asks (plain t w) (ReadObjects (ref c.0 ∷ f ∷ []) ∷ [])) (sym (task t q))))
+    (λ t u s more. ap (λ y. way_rest u (ref c.0 ∷ f ∷ []) y s more) way)
 
 -- a native begins as it does in its way
-pub does-begins : (n : NativeEntry) (args : List PyObjectRef) (kw : List (PyStrInterned × PyObjectRef)) (way : Way) (old new : World) (step : Step NativeKept) → way_of n ≡ way → Does n (λ t u. by_way u way n args (bindings t kw)) old new step → Goes asking_job_say asking_stands (λ t. fresh (ToNative n args (bindings t kw))) old new step
+pub does-begins : (n : NativeEntry) (args : List PyObjectRef) (kw : List (PyStrInterned × PyObjectRef)) (way : Way) (old new : World) (step : Step NativeKept) → way_of n ≡ way → Does n (λ t u. by_way u way n args (bindings t kw)) old new step → Goes native_group (of_native n args (λ t. bindings t kw)) old new step
 unfolding asking_job_say
-does-begins n args kw way old new step is h = λ t q.
-    let e = h args (λ t. bindings t kw) t q in
-    (e.0, subst (λ y. Steps asking_job_say (asking_stands t) t (ToNative n args (bindings t kw)) [] (by_way (plain t old) y n args (bindings t kw)) step new) (sym is) e.1)
+does-begins n args kw way old new step is h =
+    read-follows native_group (of_native n args (λ t. bindings t kw)) (λ t u. asking_job_say u (ToNative n args (bindings t kw)) []) old new (λ t u. by_way u way n args (bindings t kw)) step
+    (λ t q. ap (λ y. by_way (plain t old) y n args (bindings t kw)) is) (h args (λ t. bindings t kw))
 
-pub does-begins-ok : (n : NativeEntry) (args : List PyObjectRef) (kw : List (PyStrInterned × PyObjectRef)) (way : Way) (old new : World) (r : Result (Step NativeKept) OutOfMemory) → way_of n ≡ way → IfOk r (λ step. Does n (λ t u. by_way u way n args (bindings t kw)) old new step) → IfOk r (λ step. Goes asking_job_say asking_stands (λ t. fresh (ToNative n args (bindings t kw))) old new step)
+pub does-begins-ok : (n : NativeEntry) (args : List PyObjectRef) (kw : List (PyStrInterned × PyObjectRef)) (way : Way) (old new : World) (r : Result (Step NativeKept) OutOfMemory) → way_of n ≡ way → IfOk r (λ step. Does n (λ t u. by_way u way n args (bindings t kw)) old new step) → IfOk r (λ step. Goes native_group (of_native n args (λ t. bindings t kw)) old new step)
 does-begins-ok n args kw way old new (Ok step) is h = does-begins n args kw way old new step is h
 does-begins-ok n args kw way old new (Err e) is h = tt

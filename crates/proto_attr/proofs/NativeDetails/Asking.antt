@@ -13,10 +13,10 @@ module _ (w : World) (d : Detail) (args : List PyObjectRef) (kw : List (PyStrInt
   unfolding detail_job_say
   asks-getter m f first says asked = λ t q. (
     q,
-    subst (λ s. Steps detail_job_say (detail_stands t) t (ToNative (GetterOf Property d) args (bindings t kw)) [] s (Ask task (AfterGetter m)) w) (sym (says t)) (
+    subst (λ s. Steps (detail_stands t) t (λ u. detail_job_say u (ToNative (GetterOf Property d) args (bindings t kw))) s (Ask task (AfterGetter m)) w) (sym (says t)) (
       asked t q,
       refl,
-      record { says = λ v r more. ap (λ o. read_objects (setter_at (datum_at v o)) (λ ss. abstract_of v ss (λ s. joined v s (or_false r))) more) first },
+      λ v r more. ap (λ o. read_objects (setter_at (datum_at v o)) (λ ss. abstract_of v ss (λ s. joined v s (or_false r))) more) first,
     ),
   )
 
@@ -25,10 +25,10 @@ module _ (w : World) (d : Detail) (args : List PyObjectRef) (kw : List (PyStrInt
   unfolding detail_job_say
   asks-setter g f missing says asked = λ t q. (
     q,
-    subst (λ s. Steps detail_job_say (detail_stands t) t (ToNative (GetterOf Property d) args (bindings t kw)) [] s (Ask task (AfterSetter g)) w) (sym (says t)) (
+    subst (λ s. Steps (detail_stands t) t (λ u. detail_job_say u (ToNative (GetterOf Property d) args (bindings t kw))) s (Ask task (AfterSetter g)) w) (sym (says t)) (
       asked t q,
       refl,
-      record { says = λ v r more. ap (λ h. joined v (or_false r) h more) missing },
+      λ v r more. ap (λ h. joined v (or_false r) h more) missing,
     ),
   )
 
@@ -37,9 +37,9 @@ module _ (w : World) (d : Detail) (args : List PyObjectRef) (kw : List (PyStrInt
   unfolding detail_job_say
   asks-both asked says is = λ t q. (
     q,
-    subst (λ s. Steps detail_job_say (detail_stands t) t (ToNative (GetterOf Property d) args (bindings t kw)) [] s (Ask task AfterBoth) w) (sym (says t)) (
+    subst (λ s. Steps (detail_stands t) t (λ u. detail_job_say u (ToNative (GetterOf Property d) args (bindings t kw))) s (Ask task AfterBoth) w) (sym (says t)) (
       is t,
       refl,
-      record { says = λ v r more. refl },
+      λ v r more. refl,
     ),
   )

@@ -8,6 +8,6 @@ pub name-asks : (n : NativeEntry) (args : List PyObjectRef) (kw : List (PyStrInt
 unfolding detail_job_say
 name-asks n args kw w m c asked own says task = λ t q. (
   q,
-  subst (λ s. Steps detail_job_say (detail_stands t) t (ToNative n args (bindings t kw)) [] s (Ask asked (AfterClass m)) w) (sym (says t))
-      (task t q, refl, record { says = λ u r more. ap (λ (y : Row). y (ReadObjects (m ∷ []) ∷ (Answered r ∷ more))) (own u args (bindings t kw)) }),
+  subst (λ s. Steps (detail_stands t) t (λ u. detail_job_say u (ToNative n args (bindings t kw))) s (Ask asked (AfterClass m)) w) (sym (says t))
+      (task t q, refl, λ u r more. ap (λ (y : Row). y (ReadObjects (m ∷ []) ∷ (Answered r ∷ more))) (own u args (bindings t kw))),
 )

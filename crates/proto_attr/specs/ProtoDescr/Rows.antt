@@ -1,27 +1,27 @@
 -- What the contracts of the rows of descriptors say.
-use Rattle.proto_attr.specs.Below.{ℕ, Bool, cond, List, [], Result, Ok, Err, Option, Some, None, option_map, Raised as Fault, PyObjectRef, PyTypeRef, MethodDescriptor, Answer, DescriptorTask, Step, Ask, End, Datum, PlainWorld, DescriptorJob, DoDescrGet, DoDescrSet, DoSuperInit, DoSuperCheck, DoGeneric, ToAttribute, ReadObjects, Said, Asks, Ends, Pending, fresh, pass, value, is_text, ref, Text, known_text, PySuper, World, Reading, Reads, plain, descriptor_job, datum, task_of, ended_of, spelled, spelled_option, Group, Claim, IsClass, IsNode, of_payload}
+use Rattle.proto_attr.specs.Below.{ℕ, Bool, cond, List, [], Result, Ok, Err, Option, Some, None, option_map, Raised as Fault, PyObjectRef, PyTypeRef, MethodDescriptor, Answer, DescriptorTask, Step, Ask, End, Datum, PlainWorld, DoSuperInit, DoGeneric, ToAttribute, Said, Asks, Ends, pass, value, is_text, ref, Text, known_text, PySuper, World, Reading, Reads, plain, descriptor_job, datum, task_of, ended_of, spelled, spelled_option, Group, Claim, IsClass, IsNode, of_payload, Ended, Follows, Point, class_number, datum_at, done, end, named_end, on_done, on_value, start}
 use Rattle.std.specs.Prelude.{◌≡◌, ◌∷◌}
 use Rattle.py_node.specs.declared.payload.Payload.TheVariants as payload
 use Rattle.py_node.specs.declared.known.Known.TheVariants as known
-use Rattle.class_world.specs.Rows as rows
+use Rattle.row_kit.specs.Points as points
 use Rattle.proto_attr.specs.declared.proto_descr.DescriptorKept.{DescriptorKept}
 use Rattle.proto_attr.specs.declared.proto_descr.DescriptorKept.TheVariants.{Pass, AfterGet, Done, Binding, Starting, AfterClass}
 use Rattle.proto_attr.specs.declared.proto_descr.super_get.BoundSuper.{BoundSuper}
-use Rattle.proto_attr.specs.ProtoDescr.Say.{descriptor_say, bound_native}
-use Rattle.proto_attr.specs.ProtoDescr.Supers.{Parts, after, found_after, looked_up, start_asked}
+use Rattle.proto_attr.specs.ProtoDescr.Say.{descriptor_say, bound_native, class_method_by}
+use Rattle.proto_attr.specs.ProtoDescr.Supers.{Parts, after, found_after, looked_up, start_asked, super_bound, super_started, told_start}
 
 -- a class and an object
 abbrev pub Unbound : Type 0
 Unbound = PyTypeRef × PyObjectRef
 
--- the row that goes on, at each answer, just as the row that the code keeps this for
-abbrev pub descriptor_stands : Reading → DescriptorKept → Pending DescriptorJob
-descriptor_stands t Pass = record { task = DoDescrGet (ref 0) None None; told = [] }
-descriptor_stands t (AfterGet k f) = record { task = DoDescrGet (ref 0) None None; told = ReadObjects (k ∷ f ∷ []) ∷ [] }
-descriptor_stands t Done = record { task = DoDescrSet (ref 0) (ref 0) None; told = [] }
-descriptor_stands t (Binding c o) = record { task = DoDescrGet (ref 0) None None; told = ReadObjects (ref 0 ∷ ref c.0 ∷ o ∷ []) ∷ [] }
-descriptor_stands t (Starting s c o) = record { task = DoSuperInit (ref 0) []; told = ReadObjects (s ∷ ref c.0 ∷ o ∷ []) ∷ [] }
-descriptor_stands t (AfterClass c) = record { task = DoSuperCheck c.0 (ref 0); told = [] }
+-- what is done with the answer where this is kept
+abbrev pub descriptor_stands : Reading → DescriptorKept → Ended → Point
+descriptor_stands t Pass r w = named_end w r
+descriptor_stands t (AfterGet k f) r w = start (class_method_by w k f r) (named_end w)
+descriptor_stands t Done r w = on_done w r (end w done)
+descriptor_stands t (Binding c o) r w = start (super_bound w (ref c.0) o r) (named_end w)
+descriptor_stands t (Starting s c o) r w = start (super_started w s (ref c.0) o r) (end w)
+descriptor_stands t (AfterClass c) r w = on_value w r (λ k. end w (told_start w c.0 (class_number (datum_at w k))))
 
 -- what is said of what is kept
 abbrev pub of_descriptor_kept : DescriptorKept → List Claim
@@ -32,19 +32,19 @@ of_descriptor_kept (Binding c o) = IsClass c.0 ∷ IsNode o ∷ []
 of_descriptor_kept (Starting s c o) = IsNode s ∷ IsClass c.0 ∷ IsNode o ∷ []
 of_descriptor_kept (AfterClass c) = IsClass c.0 ∷ []
 
--- the group: its jobs, what they say, what goes on, and what is claimed of that
-abbrev pub descriptor_group : Group DescriptorTask DescriptorJob DescriptorKept
-descriptor_group = record { job = descriptor_job; say = descriptor_say; stands = descriptor_stands; claims = of_descriptor_kept }
+-- the group: the row of a task, and what is done with an answer
+abbrev pub descriptor_group : Group DescriptorTask DescriptorKept
+descriptor_group = record { row = λ t task w. descriptor_say w (descriptor_job t task); stands = descriptor_stands }
 
 abbrev pub Begins : DescriptorTask → World → World → Step DescriptorKept → Type 0
-Begins = rows.Begins descriptor_group
+Begins = points.Begins descriptor_group
 
 abbrev pub Resumes : DescriptorKept → Result Answer Fault → World → World → Step DescriptorKept → Type 0
-Resumes = rows.Resumes descriptor_group
+Resumes = points.Resumes descriptor_group
 
 -- the first step of a task, which is said to be this
 abbrev pub Starts : DescriptorTask → (Reading → PlainWorld → Said) → World → World → Step DescriptorKept → Type 0
-Starts = rows.Starts descriptor_group
+Starts = points.Starts descriptor_group
 
 -- the row ends so in a world
 abbrev pub EndsSo : Said → Result Answer Fault → PlainWorld → Type 0
@@ -112,7 +112,7 @@ remaining past c cs = cond past cs (after c cs)
 -- a `super` is initialised so, whatever it was given
 abbrev pub Initialises : PyObjectRef → (PlainWorld → Said) → World → World → Step DescriptorKept → Type 0
 Initialises s said old new step =
-    (args : List PyObjectRef) → rows.Follows descriptor_say descriptor_stands (λ t. fresh (DoSuperInit s args)) (λ t w. said w) old new step
+    (args : List PyObjectRef) → Follows descriptor_group (λ t w. descriptor_say w (DoSuperInit s args)) (λ t w. said w) old new step
 
 -- a class by its number
 abbrev pub number : Option PyTypeRef → Option ℕ

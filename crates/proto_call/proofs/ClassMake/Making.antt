@@ -17,7 +17,7 @@ module _ (kw : Bound) (said other : Reading → PlainWorld → Said) (old mid ne
   makes-from step e h = λ meta args t r.
       let k = h meta args t r in
       let f = e t k.0 in
-      (f.0, subst (λ s. Steps class_job_say (class_stands t) t (DoMakeClass meta args (bindings t kw)) [] s step new) f.1 k.1)
+      (f.0, subst (λ s. Steps (class_stands t) t (λ u. class_job_say u (DoMakeClass meta args (bindings t kw))) s step new) f.1 k.1)
 
   pub goes-from : (r : Result (Step ClassKept) OutOfMemory) → ((t : Reading) → Reads t mid → Reads t old × (other t (plain t mid) ≡ said t (plain t old))) → IfOk r (λ step. Makes kw other mid new step) → IfOk r (λ step. Makes kw said old new step)
   goes-from (Ok step) e h = makes-from step e h

@@ -1,5 +1,6 @@
 -- The parts that a class is made from, as they are read.
-use Rattle.proto_call.proofs.Below.{ℕ, suc, take, true, false, cond, List, [], length, drop, get_or, Option, Some, None, Ok, Err, refl, sym, ap, ◌∙◌, subst, arith, not, eqb, is_some, IfSome, eqb-true, true≢false, OutOfMemory, PyObjectRef, PyTypeRef, New, TypeNative, Cause, NullInName, TypeArgs, MroEntries, known_text, Raised as Fault, Answer, Step, End, Text, natives_of, entry, numbers, refused_layout, PlainWorld, Bindings, Asks, Chose, DoGetAttr, DoMakeClass, DoType, Said, Ends, ToAttribute, ToCall, DoNew, class_number, type_object, value, fault, pass, fresh, datum_at, text_keys, Held, World, Reading, bindings, plain, EndsAs, Steps, Goes, IsNode, AreNodes, Holds, node-in, ClassKept, Entries, class_job_say, by_bases, by_classes, by_one, by_parts, by_winner, called_with, classes_of, dict_of, from_three, namespace, on_bases, on_layout, text_of, three_of, tuple_of, type_by, type_call, type_new, type_new_of, with_namespace, winner, has_null, Bound, Makes, Types, class_stands}
+use Rattle.proto_call.proofs.Below.{ℕ, suc, take, true, false, cond, List, [], length, drop, get_or, Option, Some, None, Ok, Err, refl, sym, ap, ◌∙◌, subst, arith, not, eqb, is_some, IfSome, eqb-true, true≢false, OutOfMemory, PyObjectRef, PyTypeRef, New, TypeNative, Cause, NullInName, TypeArgs, MroEntries, known_text, Raised as Fault, Answer, Step, End, Text, natives_of, entry, numbers, refused_layout, PlainWorld, Bindings, Asks, Chose, DoGetAttr, DoMakeClass, DoType, Said, Ends, ToAttribute, ToCall, DoNew, class_number, type_object, value, fault, pass, datum_at, text_keys, Held, World, Reading, bindings, plain, EndsAs, Steps, IsNode, AreNodes, Holds, node-in, ClassKept, Entries, class_job_say, by_bases, by_classes, by_one, by_parts, by_winner, called_with, classes_of, dict_of, from_three, namespace, on_bases, on_layout, text_of, three_of, tuple_of, type_by, type_call, type_new, type_new_of, with_namespace, winner, has_null, Bound, Makes, Types, class_group, class_stands, ends-follow}
+use Rattle.proto_call.specs.ClassMake.Rows.{Goes}
 use Rattle.std.proofs.Common.{◌≡◌, ◌≤◌, ◌-◌, ◌∷◌, Result, IfOk}
 use Rattle.std.specs.Prelude.{◌&&◌}
 use Rattle.proto_call.specs.ClassMake.Say.{one_of}
@@ -72,18 +73,18 @@ from-args u meta o p args kw e f =
     ap (λ p. from_three u meta p args kw) f ∙ ap (λ o. by_one u meta o args kw) (sym e)
 
 -- the row begins
-pub makes-begin : (meta : ℕ) (args : List PyObjectRef) (kw : Bound) (o : Option PyObjectRef) (old new : World) (r : Result (Step ClassKept) OutOfMemory) → o ≡ one_of args kw → IfOk r (λ step. Makes kw (λ t u. by_one u meta o args (bindings t kw)) old new step) → IfOk r (λ step. Goes class_job_say class_stands (λ t. fresh (DoMakeClass meta args (bindings t kw))) old new step)
+pub makes-begin : (meta : ℕ) (args : List PyObjectRef) (kw : Bound) (o : Option PyObjectRef) (old new : World) (r : Result (Step ClassKept) OutOfMemory) → o ≡ one_of args kw → IfOk r (λ step. Makes kw (λ t u. by_one u meta o args (bindings t kw)) old new step) → IfOk r (λ step. Goes (λ t u. class_job_say u (DoMakeClass meta args (bindings t kw))) old new step)
 unfolding class_job_say
 makes-begin meta args kw o old new (Err x) e h = tt
 makes-begin meta args kw o old new (Ok step) e h = λ t q.
     let k = h meta args t q in
-    (k.0, subst (λ o. Steps class_job_say (class_stands t) t (DoMakeClass meta args (bindings t kw)) [] (by_one (plain t old) meta o args (bindings t kw)) step new) (e ∙ sym (one-read t args kw)) k.1)
+    (k.0, subst (λ o. Steps (class_stands t) t (λ u. class_job_say u (DoMakeClass meta args (bindings t kw))) (by_one (plain t old) meta o args (bindings t kw)) step new) (e ∙ sym (one-read t args kw)) k.1)
 
-pub types-begin : (n m : TypeNative) (args : List PyObjectRef) (kw : Bound) (old new : World) (r : Result (Step ClassKept) OutOfMemory) → n ≡ m → IfOk r (λ step. Types (λ t u. type_by u m args (bindings t kw)) old new step) → IfOk r (λ step. Goes class_job_say class_stands (λ t. fresh (DoType n args (bindings t kw))) old new step)
+pub types-begin : (n m : TypeNative) (args : List PyObjectRef) (kw : Bound) (old new : World) (r : Result (Step ClassKept) OutOfMemory) → n ≡ m → IfOk r (λ step. Types (λ t u. type_by u m args (bindings t kw)) old new step) → IfOk r (λ step. Goes (λ t u. class_job_say u (DoType n args (bindings t kw))) old new step)
 unfolding class_job_say
 types-begin n m args kw old new (Err x) e h = tt
 types-begin n m args kw old new (Ok step) e h =
-    subst (λ n. Goes class_job_say class_stands (λ t. fresh (DoType n args (bindings t kw))) old new step) (sym e) (λ t q. h m args kw t q)
+    subst (λ n. Goes (λ t u. class_job_say u (DoType n args (bindings t kw))) old new step) (sym e) (λ t q. h m args kw t q)
 
 -- the first argument, and the rest
 pub rest-nodes : (w : Held) (rs : List PyObjectRef) → Holds w (AreNodes rs) → Holds w (AreNodes (drop 1 rs))
@@ -106,13 +107,11 @@ first-goes u (c ∷ args) rest kw d o l e f = λ i. type_new_of u (sym e i) (f i
 pub types-from : (said other : Reading → PlainWorld → Said) (old new : World) (step : Step ClassKept) → ((t : Reading) → other t (plain t old) ≡ said t (plain t old)) → Types other old new step → Types said old new step
 types-from said other old new step e h = λ n args kw t q.
     let k = h n args kw t q in
-    (k.0, subst (λ s. Steps class_job_say (class_stands t) t (DoType n args (bindings t kw)) [] s step new) (e t) k.1)
+    (k.0, subst (λ s. Steps (class_stands t) t (λ u. class_job_say u (DoType n args (bindings t kw))) s step new) (e t) k.1)
 
 -- a native of `type` that asks no task
 pub ends-types : (F : Reading → PlainWorld → Said) (old new : World) (r : Result Answer Fault) → EndsAs F old new r → Types F old new (End r)
-ends-types F old new r h = λ n args kw t q.
-    let k = h t q in
-    (k.0, subst (λ s. Steps class_job_say (class_stands t) t (DoType n args (bindings t kw)) [] s (End r) new) (sym k.1) (refl, refl))
+ends-types F old new r h = λ n args kw. ends-follow class_group (λ t u. class_job_say u (DoType n args (bindings t kw))) F old new r h
 
 -- a call by name
 pub call-goes : (u : PlainWorld) (args rest : List PyObjectRef) (kw : Bindings) (d : PyObjectRef) (o : Option ℕ) → 1 ≤ length args → class_number (datum_at u (get_or args 0 d)) ≡ o → rest ≡ drop 1 args → called_with u o rest kw ≡ type_call u args kw

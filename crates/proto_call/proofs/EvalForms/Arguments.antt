@@ -1,12 +1,12 @@
 -- Calls whose arguments are evaluated in order.
-use Rattle.proto_call.proofs.Below.{ℕ, zero, suc, List, [], length, map, take, Some, None, true, refl, sym, ap, ◌∙◌, subst, arith, length-append, slice_get, Result, Vec, eqb-true, ltb-true, lt-ltb, map-append, length-map, take_all, slice_get_within, PyObjectRef, Raised as Fault, Answer, Form, Step, Ask, End, Text, Tree, list_of, entry_trees, PlainWorld, DoEval, ToEval, Answered, Told, Asks, Ends, Row, start, pass, end, evaluate, Held, Reading, Reads, entry_list, form_tree, spelled, plain, ended_of, Holds, AllHold, AreNames, IsExpression, HasForm, of_form, got-map, World, Steps, EvalKept, Arguments, Called, entry_names, given_say, eval_say, Takes, answered, args_of, keywords_of, positional, named, called_tree, called_told, called_task, eval_stands, arguments, arguments_at, has_argument, IsOther, Resumes, GoesOn}
+use Rattle.proto_call.proofs.Below.{ℕ, zero, suc, List, [], length, map, take, Some, None, true, refl, sym, ap, ◌∙◌, subst, arith, length-append, slice_get, Result, Vec, eqb-true, ltb-true, lt-ltb, map-append, length-map, take_all, slice_get_within, PyObjectRef, Raised as Fault, Answer, Form, Step, Ask, End, Text, Tree, list_of, entry_trees, PlainWorld, Told, Row, start, pass, end, evaluate, Held, Reading, Reads, entry_list, form_tree, spelled, plain, ended_of, Holds, AllHold, AreNames, IsExpression, HasForm, of_form, got-map, World, Arguments, Called, entry_names, given_say, Goes, answered, args_of, keywords_of, positional, named, called_task, eval_stands, arguments, arguments_at, has_argument, IsOther, Resumes, EvalKept, OutOfMemory, IfOk, Ok, Err, Value, Method, PyMethod, Load, Point, value, eval_group, arguments_row, arguments_say, invoke_say, on_method, asks-follow, ends-follow, goes-as, goes-read}
 use Rattle.std.proofs.Common.{◌≡◌, ◌==◌, ◌≤◌, ◌∷◌, ◌++◌}
 use Rattle.py_node.specs.declared.task.PyMethod.TheVariants as method
 use Rattle.py_node.specs.declared.payload.Form.TheVariants as form
 use Rattle.py_node.specs.declared.task.Task.TheVariants as task
 use Rattle.py_node.specs.declared.task.EvalTask.TheVariants as eval
 use Rattle.proto_call.specs.declared.eval_forms.call_form.Called.TheVariants as called
-use Rattle.proto_call.proofs.EvalForms.Operands.{part, list_of-trees_of, entry_trees-list, long-trees, names-of-entries, append-nil, append-on, append-holds, point-takes, there, evaluate-ask, evaluate-other, evaluate-all}
+use Rattle.proto_call.proofs.EvalForms.Operands.{part, list_of-trees_of, entry_trees-list, long-trees, names-of-entries, append-nil, append-holds, there, told-more, evaluate-ask, evaluate-other, evaluate-all}
 
 -- all that is evaluated for the arguments and keywords of a call
 abbrev all : Tree → List Tree
@@ -32,38 +32,26 @@ names-form : (text : ℕ → Text) (tree : ℕ → Tree) (f : Form) → entry_na
 names-form text tree (form.Call parts) = names-of-entries text tree parts.value.keywords.items
 names-form text tree _ = refl
 
--- a call that has learnt what it calls evaluates its arguments and keywords
-row-arguments : (u : PlainWorld) (f : Called) (x : Tree) (more : Told) → eval_say u (DoEval (called_tree f x)) (called_told f ++ more) ≡ evaluate u (all x) (given u f x) more
-unfolding eval_say
-row-arguments u (called.Object r) x more = refl
-row-arguments u (called.Method (method.Function a r)) x more = refl
-row-arguments u (called.Method (method.Attribute r)) x more = refl
-
 -- the next argument of a call is evaluated
 pub argument-asked : (w : World) (e n : ℕ) (f : Form) (c : Called) (vs : Vec PyObjectRef) → slice_get w.forms e ≡ Some f → slice_get (arguments f) (length vs.items) ≡ Some n
-    → GoesOn (Arguments e c vs) w w (Ask (task.Eval (eval.Eval n)) (Arguments e c vs))
-argument-asked w e n f c vs h k = λ t r. (r, step t (r.trees e f h))
-  where
-    step : (t : Reading) → t.tree e ≡ form_tree t.text t.tree f
-        → Steps eval_say (eval_stands t) t (DoEval (called_tree c (t.tree e))) (called_told c ++ map answered vs.items) (eval_say (plain t w) (DoEval (called_tree c (t.tree e))) (called_told c ++ map answered vs.items)) (Ask (task.Eval (eval.Eval n)) (Arguments e c vs)) w
-    step t q =
-        let x = t.tree e in
-        let told = called_told c ++ map answered vs.items in
-        let got : slice_get (all x) (length vs.items) ≡ Some (t.tree n) =
-        ap (λ x. slice_get (all x) (length vs.items)) q ∙ ap (λ ts. slice_get ts (length vs.items)) (args-form t.text t.tree f) ∙ got-map t.tree (arguments f) (length vs.items) n k in
-        let asks : eval_say (plain t w) (DoEval (called_tree c x)) told ≡ Asks (plain t w) [] (ToEval (DoEval (t.tree n))) =
-        row-arguments (plain t w) c x (map answered vs.items) ∙ evaluate-ask (plain t w) (all x) (given (plain t w) c x) vs.items (t.tree n) got in
-        subst (λ said. Steps eval_say (eval_stands t) t (DoEval (called_tree c x)) told said (Ask (task.Eval (eval.Eval n)) (Arguments e c vs)) w) (sym asks) (refl, refl, record { says = λ u s more. ap (λ l. eval_say u (DoEval (called_tree c x)) (l ++ Answered s ∷ more)) (append-nil told) })
+    → Goes (λ t. arguments_row (t.tree e) c vs.items) w w (Ask (task.Eval (eval.Eval n)) (Arguments e c vs))
+argument-asked w e n f c vs h k =
+    let row = λ (t : Reading). arguments_row (t.tree e) c vs.items in
+    asks-follow eval_group row (λ t u. row t u []) w w [] (task.Eval (eval.Eval n)) (Arguments e c vs) (λ t r.
+    let u = plain t w in
+    let x = t.tree e in
+    let got : slice_get (all x) (length vs.items) ≡ Some (t.tree n) =
+    ap (λ x. slice_get (all x) (length vs.items)) (r.trees e f h) ∙ ap (λ ts. slice_get ts (length vs.items)) (args-form t.text t.tree f) ∙ got-map t.tree (arguments f) (length vs.items) n k in
+    (r, ap (evaluate u (all x) (given u c x)) (append-nil (map answered vs.items)) ∙ evaluate-ask u (all x) (given u c x) vs.items (t.tree n) got)) (λ t u s more. refl)
 
 -- with the values of all arguments and keywords, it calls
 row-called : (u : PlainWorld) (t : Reading) (w : World) (e : ℕ) (f : Form) (c : Called) (vs : List PyObjectRef) (more : Told) → Reads t w → slice_get w.forms e ≡ Some f → length (arguments f) ≡ length vs
-    → eval_say u (DoEval (called_tree c (t.tree e))) (called_told c ++ (map answered vs ++ more)) ≡ given_say u (called_task c) (length (positional f)) (map (spelled t) (map (λ k. k.0) (named f))) vs more
+    → arguments_row (t.tree e) c vs u more ≡ given_say u (called_task c) (length (positional f)) (map (spelled t) (map (λ k. k.0) (named f))) vs more
 row-called u t w e f c vs more r h l =
     let x = t.tree e in
     let here : length (all x) ≡ length vs =
     ap (λ x. length (all x)) (r.trees e f h) ∙ ap length (args-form t.text t.tree f) ∙ length-map (arguments f) t.tree ∙ l in
-    row-arguments u c x (map answered vs ++ more)
-    ∙ evaluate-all u (all x) (given u c x) vs more here
+    evaluate-all u (all x) (given u c x) vs more here
     ∙ ap (λ y. given u c y vs more) (r.trees e f h)
     ∙ ap (λ n. given_say u (called_task c) n (entry_names (keywords_of (form_tree t.text t.tree f))) vs more) (long-form t.text t.tree f)
     ∙ ap (λ xs. given_say u (called_task c) (length (positional f)) xs vs more) (names-form t.text t.tree f)
@@ -82,36 +70,42 @@ all-given w e f n h k l =
 
 -- a call goes on as it does with the values of all
 pub arguments-given : (w : World) (e : ℕ) (f : Form) (c : Called) (vs : Vec PyObjectRef) (next : Step EvalKept) → slice_get w.forms e ≡ Some f → slice_get (arguments f) (length vs.items) ≡ None → length vs.items ≤ length (arguments_at (slice_get w.forms e))
-    → Takes (λ t u. given_say u (called_task c) (length (positional f)) (map (spelled t) (map (λ k. k.0) (named f))) vs.items) w w next → GoesOn (Arguments e c vs) w w next
-arguments-given w e f c vs next h k l goes = λ t r.
-    let here = goes t r in
-    let job = DoEval (called_tree c (t.tree e)) in
-    let told = called_told c ++ map answered vs.items in
-    let row = λ (u : PlainWorld). given_say u (called_task c) (length (positional f)) (map (spelled t) (map (λ k. k.0) (named f))) vs.items in
-    let first = ap (eval_say (plain t w) job) (sym (append-nil told)) ∙ on t r (plain t w) [] in
-    (here.0, subst (λ said. Steps eval_say (eval_stands t) t job told said next w) (sym first) (point-takes t job told row w (on t r) (row (plain t w) []) next here.1))
-  where
-    on : (t : Reading) → Reads t w → (u : PlainWorld) (more : Told)
-        → eval_say u (DoEval (called_tree c (t.tree e))) ((called_told c ++ map answered vs.items) ++ more) ≡ given_say u (called_task c) (length (positional f)) (map (spelled t) (map (λ k. k.0) (named f))) vs.items more
-    on t r u more =
-        ap (eval_say u (DoEval (called_tree c (t.tree e)))) (append-on (called_told c) (map answered vs.items) more)
-        ∙ row-called u t w e f c vs.items more r h (all-given w e f (length vs.items) h k l)
+    → Goes (λ t u. given_say u (called_task c) (length (positional f)) (map (spelled t) (map (λ k. k.0) (named f))) vs.items) w w next → Goes (λ t. arguments_row (t.tree e) c vs.items) w w next
+arguments-given w e f c vs next h k l goes =
+    goes-read eval_group (λ t u. given_say u (called_task c) (length (positional f)) (map (spelled t) (map (λ k. k.0) (named f))) vs.items) (λ t. arguments_row (t.tree e) c vs.items) w w next (λ t r u more. row-called u t w e f c vs.items more r h (all-given w e f (length vs.items) h k l)) goes
 
 -- an argument that is answered no object ends the call so
 pub argument-other : (w : World) (e : ℕ) (c : Called) (vs : Vec PyObjectRef) (s : Result Answer Fault) → IsOther s → Holds w (HasForm e (has_argument (length vs.items))) → Resumes (Arguments e c vs) s w w (End s)
 unfolding Holds
-argument-other w e c vs s o h = λ t r.
+argument-other w e c vs s o h =
+    let row = λ (t : Reading). eval_stands t (Arguments e c vs) (ended_of s) in
+    ends-follow eval_group row (λ t u. row t u []) w w s (λ t r.
     let f = h.0 in
     let some = there (arguments f) (length vs.items) (ltb-true (length vs.items) (length (arguments f)) h.2) in
-    let job = DoEval (called_tree c (t.tree e)) in
     let got : slice_get (all (t.tree e)) (length vs.items) ≡ Some (t.tree some.0) =
     ap (λ x. slice_get (all x) (length vs.items)) (r.trees e f h.1) ∙ ap (λ ts. slice_get ts (length vs.items)) (args-form t.text t.tree f) ∙ got-map t.tree (arguments f) (length vs.items) some.0 some.1 in
-    let told = (called_told c ++ map answered vs.items) ++ Answered (ended_of s) ∷ [] in
-    let ends : eval_say (plain t w) job told ≡ Ends (plain t w) (ended_of s) =
-    ap (eval_say (plain t w) job) (append-on (called_told c) (map answered vs.items) (Answered (ended_of s) ∷ []))
-    ∙ row-arguments (plain t w) c (t.tree e) (map answered vs.items ++ Answered (ended_of s) ∷ [])
-    ∙ evaluate-other (plain t w) (all (t.tree e)) (given (plain t w) c (t.tree e)) vs.items (t.tree some.0) s [] o got in
-    (r, subst (λ said. Steps eval_say (eval_stands t) t job told said (End s) w) (sym ends) (refl, refl))
+    (r, evaluate-other (plain t w) (all (t.tree e)) (given (plain t w) c (t.tree e)) vs.items (t.tree some.0) s [] o got))
+
+-- an argument has a value
+pub argument-more : (w : World) (e : ℕ) (c : Called) (vs more : Vec PyObjectRef) (v : PyObjectRef) (s : Result Answer Fault) (r : Result (Step EvalKept) OutOfMemory) → s ≡ Ok (Value v) → more.items ≡ vs.items ++ v ∷ [] → IfOk r (λ step. Goes (λ t. arguments_row (t.tree e) c more.items) w w step) → IfOk r (λ step. Resumes (Arguments e c vs) s w w step)
+argument-more w e c vs more v s (Ok step) given is h =
+    subst (λ s. Resumes (Arguments e c vs) s w w step) (sym given)
+    (goes-as eval_group (λ t. arguments_row (t.tree e) c more.items) (λ t. eval_stands t (Arguments e c vs) (value v)) (λ t u told. ap (arguments_say u (args_of (t.tree e)) (keywords_of (t.tree e)) (called_task c)) (told-more vs.items v told ∙ ap (λ l. map answered l ++ told) (sym is))) w w step h)
+argument-more w e c vs more v s (Err x) given is h = tt
+
+-- a call that has learnt what it calls begins with its first argument
+pub argument-first : (w : World) (e : ℕ) (c : Called) (vs : Vec PyObjectRef) (row : Reading → Point) (r : Result (Step EvalKept) OutOfMemory) → vs.items ≡ [] → ((t : Reading) → Reads t w → (u : PlainWorld) (more : Told) → row t u more ≡ arguments_say u (args_of (t.tree e)) (keywords_of (t.tree e)) (called_task c) more) → IfOk r (λ step. Goes (λ t. arguments_row (t.tree e) c vs.items) w w step) → IfOk r (λ step. Goes row w w step)
+argument-first w e c vs row (Ok step) none same h =
+    goes-read eval_group (λ t. arguments_row (t.tree e) c vs.items) row w w step (λ t q u more. same t q u more ∙ ap (λ l. arguments_say u (args_of (t.tree e)) (keywords_of (t.tree e)) (called_task c) (map answered l ++ more)) (sym none)) h
+argument-first w e c vs row (Err x) none same h = tt
+
+pub method-first : (w : World) (e : ℕ) (m : PyMethod) (vs : Vec PyObjectRef) (s : Result Answer Fault) (r : Result (Step EvalKept) OutOfMemory) → s ≡ Ok (Method m) → vs.items ≡ [] → IfOk r (λ step. Goes (λ t. arguments_row (t.tree e) (called.Method m) vs.items) w w step) → IfOk r (λ step. Resumes (Load e) s w w step)
+method-first w e m vs s r given none h =
+    argument-first w e (called.Method m) vs (λ t. eval_stands t (Load e) (ended_of s)) r none (λ t q u more. ap (λ (a : Result Answer Fault). on_method u (ended_of a) (invoke_say u (args_of (t.tree e)) (keywords_of (t.tree e))) more) given ∙ invoked m (t.tree e) u more) h
+  where
+    invoked : (m : PyMethod) (x : Tree) (u : PlainWorld) (more : Told) → on_method u (ended_of (Ok (Method m))) (invoke_say u (args_of x) (keywords_of x)) more ≡ arguments_say u (args_of x) (keywords_of x) (called_task (called.Method m)) more
+    invoked (method.Function a f) x u more = refl
+    invoked (method.Attribute f) x u more = refl
 
 -- an argument is an expression
 pub argument-holds : (w : Held) (f : Form) (n e : ℕ) → AllHold w (of_form f) → slice_get (arguments f) n ≡ Some e → Holds w (IsExpression e)
@@ -137,11 +131,11 @@ no-more (x ∷ xs) h = let none : length (x ∷ xs) ≡ 0 = eqb-true (length (x 
 
 -- with no keywords, all values are arguments
 pub plainly-given : (w : World) (f : Form) (c : Called) (vs : List PyObjectRef) (next : Step EvalKept) → length (arguments f) ≡ length vs → named f ≡ []
-    → Takes (λ t u. start (pass u (called_task c vs [])) (end u)) w w next → Takes (λ t u. given_say u (called_task c) (length (positional f)) (map (spelled t) (map (λ k. k.0) (named f))) vs) w w next
+    → Goes (λ t u. start (pass u (called_task c vs [])) (end u)) w w next → Goes (λ t u. given_say u (called_task c) (length (positional f)) (map (spelled t) (map (λ k. k.0) (named f))) vs) w w next
 plainly-given w f c vs next l none goes =
     let parts = length-append (positional f) (map (λ k. k.1) (named f)) in
     let count = length-map (named f) (λ k. k.1) in
     let empty = ap length none in
     let all : take (length (positional f)) vs ≡ vs = take_all (length (positional f)) vs (omega (arith, l, parts, count, empty)) in
-    subst (λ ks. Takes (λ t u. given_say u (called_task c) (length (positional f)) (map (spelled t) (map (λ k. k.0) ks)) vs) w w next) (sym none)
-    (subst (λ xs. Takes (λ t u. start (pass u (called_task c xs [])) (end u)) w w next) (sym all) goes)
+    subst (λ ks. Goes (λ t u. given_say u (called_task c) (length (positional f)) (map (spelled t) (map (λ k. k.0) ks)) vs) w w next) (sym none)
+    (subst (λ xs. Goes (λ t u. start (pass u (called_task c xs [])) (end u)) w w next) (sym all) goes)

@@ -1,5 +1,5 @@
 -- The class form: names with their values, and the new objects of a class.
-use Rattle.proto_call.proofs.Below.{ℕ, zero, suc, List, [], length, take, drop, map, Some, None, Ok, Err, arith, refl, sym, ap, ◌∙◌, subst, slice_get, Result, IfOk, IfSome, nat_le, length-map, Text, OutOfMemory, Step, Ask, Task, PyObjectRef, PyStrInterned, PlainWorld, Bindings, AText, ATuple, DoCall, ToCall, Said, Asks, filled, TooLong, Row, start, end, fault, most_items, with_node, next_node, Held, Reading, Reads, bindings, spelled, plain, task_of, World, Grows, Holds, AllHold, IsName, IsNode, AreNodes, of_each, of_binding, of_option, of_node_ref, each-get, no-nodes, more-nodes, node-in, map-push, Pairs, keyed, metaclass, given_metaclass, other_keywords, on_keywords, unrepeated, with_dict, call_with, class_by, class_say, class_within, eval_say, the_str, the_tuple, EvalKept, Pass, TakesAt, Takes, ArePairs}
+use Rattle.proto_call.proofs.Below.{ℕ, zero, suc, List, [], length, take, drop, map, Some, None, Ok, Err, arith, refl, sym, ap, ◌∙◌, subst, slice_get, Result, IfOk, IfSome, nat_le, length-map, Text, OutOfMemory, Step, Ask, Task, PyObjectRef, PyStrInterned, PlainWorld, Bindings, AText, ATuple, DoCall, ToCall, Said, Asks, filled, TooLong, Row, start, end, fault, most_items, with_node, next_node, Held, Reading, Reads, bindings, spelled, plain, task_of, World, Grows, Holds, AllHold, IsName, IsNode, AreNodes, of_each, of_binding, of_option, of_node_ref, each-get, no-nodes, more-nodes, node-in, map-push, Pairs, keyed, metaclass, given_metaclass, other_keywords, on_keywords, unrepeated, with_dict, call_with, class_by, class_say, class_within, the_str, the_tuple, EvalKept, Pass, Goes, ArePairs, Steps, Point, eval_group, eval_stands, asks-follow}
 use Rattle.std.proofs.Common.{◌≡◌, ◌∷◌, ◌++◌}
 use Rattle.std.specs.Prelude.{Option, true, cond}
 
@@ -94,13 +94,10 @@ module _ (w : Held) where
   first-holds (r ∷ rs) h = (node-in w (r ∷ rs) 0 r h refl, tt)
 
 -- a step that a row takes, by another name of the row
-pub takes-same : (a b : Reading → PlainWorld → Row) (old new : World) (r : Result (Step EvalKept) OutOfMemory) → ((t : Reading) → a t ≡ b t) → IfOk r (λ step. Takes a old new step) → IfOk r (λ step. Takes b old new step)
-takes-same a b old new (Ok step) e h = λ t r. let here = h t r in (here.0, subst (λ row. TakesAt row t (row (plain t old) []) step new) (e t) here.1)
+pub takes-same : (a b : Reading → PlainWorld → Row) (old new : World) (r : Result (Step EvalKept) OutOfMemory) → ((t : Reading) → a t ≡ b t) → IfOk r (λ step. Goes a old new step) → IfOk r (λ step. Goes b old new step)
+takes-same a b old new (Ok step) e h = λ t r. let here = h t r in (here.0, subst (λ (row : Point). Steps (eval_stands t) t row (row (plain t old) []) step new) (e t) here.1)
 takes-same a b old new (Err x) e h = tt
 
 -- what is asked at once, and passed on
-pub asks-takes : (old new : World) (said : Reading → PlainWorld → Said) (asked : Task) → ((t : Reading) → Reads t new → Reads t old × (said t (plain t old) ≡ Asks (plain t new) [] (task_of t asked))) → Takes (λ t u. start (said t u) (end u)) old new (Ask asked Pass)
-unfolding eval_say
-asks-takes old new said asked h = λ t r.
-    let here = h t r in
-    (here.0, subst (λ s. TakesAt (λ u. start (said t u) (end u)) t s (Ask asked Pass) new) (sym here.1) (refl, refl, (λ u s more. refl)))
+pub asks-takes : (old new : World) (said : Reading → PlainWorld → Said) (asked : Task) → ((t : Reading) → Reads t new → Reads t old × (said t (plain t old) ≡ Asks (plain t new) [] (task_of t asked))) → Goes (λ t u. start (said t u) (end u)) old new (Ask asked Pass)
+asks-takes old new said asked h = asks-follow eval_group (λ t u. start (said t u) (end u)) said old new [] asked Pass h (λ t u s more. refl)

@@ -1,5 +1,5 @@
 -- Dicts whose keys and values are evaluated in order.
-use Rattle.proto_call.proofs.Below.{ℕ, zero, suc, true, false, cond, List, [], length, map, Some, None, Ok, Err, refl, sym, ap, ◌∙◌, subst, arith, slice_get, is_some, Result, IfOk, Vec, ltb-true, lt-ltb, slice_get_within, PyObjectRef, OutOfMemory, Raised as Fault, KeyType, Answer, Value, Form, Step, Ask, End, Text, Tree, TDict, KeyedTrees, no_keyed, keyed_of, entries_from, PlainWorld, DoEval, ToEval, Answered, Told, Asks, Ends, Row, fault, end, key_at, Held, of_pairs, Reading, Reads, form_tree, plain, ended_of, Holds, AllHold, IsNode, AreNodes, IsExpression, CanBeKeys, HasForm, held_key, of_form, expression-in, got-map, all-pushed, map-end, key_at-read, World, Steps, EvalKept, Key, Pairs, evaluate_pairs, make_dict, eval_say, answered, eval_stands, of_eval_kept, pairs_of, pairs_told, pairs, pairs_at, has_pair, IsOther, IsOwn, EndsRow, Continues, GoesOn, Resumes, operands}
+use Rattle.proto_call.proofs.Below.{ℕ, zero, suc, true, false, cond, List, [], length, map, Some, None, Ok, Err, refl, sym, ap, ◌∙◌, arith, slice_get, is_some, Result, IfOk, Vec, ltb-true, lt-ltb, slice_get_within, PyObjectRef, OutOfMemory, Raised as Fault, KeyType, Answer, Value, Form, Step, Ask, End, Text, Tree, TDict, KeyedTrees, no_keyed, keyed_of, entries_from, PlainWorld, DoEval, Answered, Told, Row, fault, end, key_at, Held, of_pairs, Reading, Reads, form_tree, plain, ended_of, Holds, AllHold, IsNode, AreNodes, IsExpression, CanBeKeys, HasForm, held_key, of_form, expression-in, got-map, all-pushed, map-end, key_at-read, World, EvalKept, Key, Pairs, evaluate_pairs, make_dict, eval_say, answered, eval_stands, of_eval_kept, pairs_of, pairs_told, pairs, pairs_at, has_pair, IsOther, IsOwn, EndsRow, Continues, Resumes, operands, Goes, value, eval_group, pairs_row, operands_row, dict_say, asks-follow, ends-follow, goes-as, goes-read, subst}
 use Rattle.std.proofs.Common.{◌≡◌, ◌<◌, ◌≤◌, ◌∷◌, ◌++◌}
 use Rattle.py_node.specs.declared.payload.Form.TheVariants as form
 use Rattle.py_node.specs.declared.task.Task.TheVariants as task
@@ -7,7 +7,7 @@ use Rattle.py_node.specs.declared.task.EvalTask.TheVariants as eval
 use Rattle.py_node.specs.Tree.{keyed}
 use Rattle.proto_call.specs.declared.eval_forms.EvalKept.TheVariants.{Value as OfKey}
 use Rattle.proto_call.specs.declared.eval_forms.Own.TheVariants as own
-use Rattle.proto_call.proofs.EvalForms.Operands.{append-nil, append-on, on-other}
+use Rattle.proto_call.proofs.EvalForms.Operands.{append-nil, on-other}
 
 -- the pairs past the first so many
 abbrev past : ℕ → KeyedTrees → KeyedTrees
@@ -57,8 +57,7 @@ gone-past w (keyed a b ps) go (e ∷ es) more k l =
 
 -- the row of a dict, past the pairs that have values
 row-past : (u : PlainWorld) (t : Reading) (w : World) (e : ℕ) (f : Form) (es : Pairs) (more : Told) → Reads t w → slice_get w.forms e ≡ Some f → length es ≤ length (pairs f) → AreKnown u es
-    → eval_say u (DoEval (TDict (pairs_of (t.tree e)))) (pairs_told es ++ more) ≡ evaluate_pairs u (past (length es) (keyed_of (map (λ p. (t.tree p.0, t.tree p.1)) (pairs f)))) (λ fs. make_dict u (entries_from u (es ++ fs))) more
-unfolding eval_say
+    → pairs_row (t.tree e) es u more ≡ evaluate_pairs u (past (length es) (keyed_of (map (λ p. (t.tree p.0, t.tree p.1)) (pairs f)))) (λ fs. make_dict u (entries_from u (es ++ fs))) more
 row-past u t w e f es more r h l k =
     let all = ap pairs_of (r.trees e f h) ∙ pairs-form t.text t.tree f in
     let many = count-trees t.tree (pairs f) in
@@ -79,65 +78,44 @@ module _ (w : World) (e : ℕ) (f : Form) (es : Vec (PyObjectRef × PyObjectRef)
   rest t = past (suc (length es.items)) (keyed_of (map (λ p. (t.tree p.0, t.tree p.1)) (pairs f)))
 
   row-pair : (t : Reading) (more : Told) → Reads t w
-      → eval_say (plain t w) (DoEval (TDict (pairs_of (t.tree e)))) (pairs_told es.items ++ more) ≡ evaluate_pairs (plain t w) (keyed (t.tree p.0) (t.tree p.1) (rest t)) (λ fs. make_dict (plain t w) (entries_from (plain t w) (es.items ++ fs))) more
+      → pairs_row (t.tree e) es.items (plain t w) more ≡ evaluate_pairs (plain t w) (keyed (t.tree p.0) (t.tree p.1) (rest t)) (λ fs. make_dict (plain t w) (entries_from (plain t w) (es.items ++ fs))) more
   row-pair t more r =
       row-past (plain t w) t w e f es.items more r h (within (pairs f) (length es.items) p k) (known-read t w es.items c)
       ∙ ap (λ ps. evaluate_pairs (plain t w) ps (λ fs. make_dict (plain t w) (entries_from (plain t w) (es.items ++ fs))) more) (past-there t.tree (pairs f) (length es.items) p k)
 
   -- the next key is evaluated
-  pub key-asked : GoesOn (Key e es) w w (Ask (task.Eval (eval.Eval p.0)) (Key e es))
-  key-asked = λ t r. (r, step t r)
-    where
-      step : (t : Reading) → Reads t w
-          → Steps eval_say (eval_stands t) t (DoEval (TDict (pairs_of (t.tree e)))) (pairs_told es.items) (eval_say (plain t w) (DoEval (TDict (pairs_of (t.tree e)))) (pairs_told es.items)) (Ask (task.Eval (eval.Eval p.0)) (Key e es)) w
-      step t r =
-          let job = DoEval (TDict (pairs_of (t.tree e))) in
-          let told = pairs_told es.items in
-          let asks : eval_say (plain t w) job told ≡ Asks (plain t w) [] (ToEval (DoEval (t.tree p.0))) =
-          ap (eval_say (plain t w) job) (sym (append-nil told)) ∙ row-pair t [] r in
-          subst (λ said. Steps eval_say (eval_stands t) t job told said (Ask (task.Eval (eval.Eval p.0)) (Key e es)) w) (sym asks) (refl, refl, record { says = λ u s more. ap (λ l. eval_say u job (l ++ Answered s ∷ more)) (append-nil told) })
+  pub key-asked : Goes (λ t. pairs_row (t.tree e) es.items) w w (Ask (task.Eval (eval.Eval p.0)) (Key e es))
+  key-asked =
+      let row = λ (t : Reading). pairs_row (t.tree e) es.items in
+      asks-follow eval_group row (λ t u. row t u []) w w [] (task.Eval (eval.Eval p.0)) (Key e es) (λ t r. (r, row-pair t [] r)) (λ t u s more. refl)
 
   -- the key has a value: what stands under it is evaluated
   pub value-asked : (v : PyObjectRef) → Resumes (Key e es) (Ok (Value v)) w w (Ask (task.Eval (eval.Eval p.1)) (OfKey e es v))
-  value-asked v = λ t r. (r, step t r)
-    where
-      step : (t : Reading) → Reads t w
-          → Steps eval_say (eval_stands t) t (DoEval (TDict (pairs_of (t.tree e)))) (pairs_told es.items ++ answered v ∷ []) (eval_say (plain t w) (DoEval (TDict (pairs_of (t.tree e)))) (pairs_told es.items ++ answered v ∷ [])) (Ask (task.Eval (eval.Eval p.1)) (OfKey e es v)) w
-      step t r =
-          let job = DoEval (TDict (pairs_of (t.tree e))) in
-          let told = pairs_told es.items ++ answered v ∷ [] in
-          let asks : eval_say (plain t w) job told ≡ Asks (plain t w) [] (ToEval (DoEval (t.tree p.1))) =
-          row-pair t (answered v ∷ []) r in
-          subst (λ said. Steps eval_say (eval_stands t) t job told said (Ask (task.Eval (eval.Eval p.1)) (OfKey e es v)) w) (sym asks) (refl, refl, record { says = λ u s more. ap (λ l. eval_say u job (l ++ Answered s ∷ more)) (append-nil told) })
+  value-asked v =
+      let row = λ (t : Reading). eval_stands t (Key e es) (value v) in
+      asks-follow eval_group row (λ t u. row t u []) w w [] (task.Eval (eval.Eval p.1)) (OfKey e es v) (λ t r. (r, row-pair t (answered v ∷ []) r)) (λ t u s more. refl)
 
   -- what is answered no object ends the dict so, in the place of a key
   key-other : (s : Result Answer Fault) → IsOther s → Resumes (Key e es) s w w (End s)
-  key-other s o = λ t r.
-      let job = DoEval (TDict (pairs_of (t.tree e))) in
-      let told = pairs_told es.items ++ Answered (ended_of s) ∷ [] in
-      let ends : eval_say (plain t w) job told ≡ Ends (plain t w) (ended_of s) =
-      row-pair t (Answered (ended_of s) ∷ []) r ∙ on-other (plain t w) s _ [] o in
-      (r, subst (λ said. Steps eval_say (eval_stands t) t job told said (End s) w) (sym ends) (refl, refl))
+  key-other s o =
+      let row = λ (t : Reading). eval_stands t (Key e es) (ended_of s) in
+      ends-follow eval_group row (λ t u. row t u []) w w s (λ t r. (r, row-pair t (Answered (ended_of s) ∷ []) r ∙ on-other (plain t w) s _ [] o))
 
   -- and in that of a value
   value-other : (v : PyObjectRef) (s : Result Answer Fault) → IsOther s → Resumes (OfKey e es v) s w w (End s)
-  value-other v s o = λ t r.
-      let job = DoEval (TDict (pairs_of (t.tree e))) in
-      let told = (pairs_told es.items ++ answered v ∷ []) ++ Answered (ended_of s) ∷ [] in
-      let ends : eval_say (plain t w) job told ≡ Ends (plain t w) (ended_of s) =
-      ap (eval_say (plain t w) job) (append-on (pairs_told es.items) (answered v ∷ []) (Answered (ended_of s) ∷ [])) ∙ row-pair t (answered v ∷ Answered (ended_of s) ∷ []) r ∙ on-other (plain t w) s _ [] o in
-      (r, subst (λ said. Steps eval_say (eval_stands t) t job told said (End s) w) (sym ends) (refl, refl))
+  value-other v s o =
+      let row = λ (t : Reading). eval_stands t (OfKey e es v) (ended_of s) in
+      ends-follow eval_group row (λ t u. row t u []) w w s (λ t r. (r, row-pair t (answered v ∷ Answered (ended_of s) ∷ []) r ∙ on-other (plain t w) s _ [] o))
 
   -- what is no key is refused
   key-refused : (v u : PyObjectRef) → ((t : Reading) → is_some (key_at (plain t w) v) ≡ false) → Resumes (OfKey e es v) (Ok (Value u)) w w (End (fault KeyType))
-  key-refused v u n = λ t r.
-      let job = DoEval (TDict (pairs_of (t.tree e))) in
-      let told = (pairs_told es.items ++ answered v ∷ []) ++ answered u ∷ [] in
-      let ends : eval_say (plain t w) job told ≡ Ends (plain t w) (fault KeyType) =
-      ap (eval_say (plain t w) job) (append-on (pairs_told es.items) (answered v ∷ []) (answered u ∷ []))
-      ∙ row-pair t (answered v ∷ answered u ∷ []) r
-      ∙ ap (λ b. cond b (evaluate_pairs (plain t w) (rest t) (λ fs. make_dict (plain t w) (entries_from (plain t w) (es.items ++ (v, u) ∷ fs)))) (end (plain t w) (fault KeyType)) []) (n t) in
-      (r, subst (λ said. Steps eval_say (eval_stands t) t job told said (End (fault KeyType)) w) (sym ends) (refl, refl))
+  key-refused v u n =
+      let row = λ (t : Reading). eval_stands t (OfKey e es v) (value u) in
+      ends-follow eval_group row (λ t u. row t u []) w w (fault KeyType) (λ t r. (
+        r,
+        row-pair t (answered v ∷ answered u ∷ []) r
+            ∙ ap (λ b. cond b (evaluate_pairs (plain t w) (rest t) (λ fs. make_dict (plain t w) (entries_from (plain t w) (es.items ++ (v, u) ∷ fs)))) (end (plain t w) (fault KeyType)) []) (n t),
+      ))
 
 -- a dict that waits has the pair that it waits for
 pair-there : (ps : List (ℕ × ℕ)) (n : ℕ) → n < length ps → (p : ℕ × ℕ) × (slice_get ps n ≡ Some p)
@@ -166,33 +144,30 @@ refused-ends w e es k v n h =
     let p = pair-there (pairs f) (length es.items) (ltb-true (length es.items) (length (pairs f)) h.1.0.2) in
     key-refused w e f es p.0 h.1.0.1 p.1 h.1.1.1.1.1.0 k v n
 
-told-pushed : (es : Pairs) (k v : PyObjectRef) → (pairs_told es ++ answered k ∷ []) ++ answered v ∷ [] ≡ pairs_told (es ++ (k, v) ∷ [])
-told-pushed [] k v = refl
-told-pushed (e ∷ es) k v = ap (λ l. answered e.0 ∷ answered e.1 ∷ l) (told-pushed es k v)
+told-pushed : (es : Pairs) (k v : PyObjectRef) (told : Told) → pairs_told es ++ (answered k ∷ answered v ∷ told) ≡ pairs_told (es ++ (k, v) ∷ []) ++ told
+told-pushed [] k v told = refl
+told-pushed (e ∷ es) k v told = ap (λ l. answered e.0 ∷ answered e.1 ∷ l) (told-pushed es k v told)
 
 -- a pair more
-pub pair-found : (w new : World) (e : ℕ) (es more : Vec (PyObjectRef × PyObjectRef)) (k v : PyObjectRef) (step : Step EvalKept) → more.items ≡ es.items ++ (k, v) ∷ [] → GoesOn (Key e more) w new step → Resumes (OfKey e es k) (Ok (Value v)) w new step
-pair-found w new e es more k v step q h = λ t r.
-    let same = ap pairs_told q ∙ sym (told-pushed es.items k v) in
-    let here = h t r in
-    (here.0, subst (λ told. Steps eval_say (eval_stands t) t (DoEval (TDict (pairs_of (t.tree e)))) told (eval_say (plain t w) (DoEval (TDict (pairs_of (t.tree e)))) told) step new) same here.1)
+pub pair-found : (w new : World) (e : ℕ) (es more : Vec (PyObjectRef × PyObjectRef)) (k v : PyObjectRef) (step : Step EvalKept) → more.items ≡ es.items ++ (k, v) ∷ [] → Goes (λ t. pairs_row (t.tree e) more.items) w new step → Resumes (OfKey e es k) (Ok (Value v)) w new step
+pair-found w new e es more k v step q h =
+    goes-as eval_group (λ t. pairs_row (t.tree e) more.items) (λ t. eval_stands t (OfKey e es k) (value v)) (λ t u told. ap (dict_say u (pairs_of (t.tree e))) (told-pushed es.items k v told ∙ ap (λ l. pairs_told l ++ told) (sym q))) w new step h
 
 -- with the values of all pairs, the dict is made
 pub dict-made : (w new : World) (e : ℕ) (f : Form) (es : Vec (PyObjectRef × PyObjectRef)) (step : Step EvalKept) → slice_get w.forms e ≡ Some f → slice_get (pairs f) (length es.items) ≡ None → length es.items ≤ length (pairs_at (slice_get w.forms e)) → Holds w (CanBeKeys (map (λ e. e.0) es.items))
-    → EndsRow (λ t u. make_dict u (entries_from u es.items)) w new step → GoesOn (Key e es) w new step
+    → EndsRow (λ t u. make_dict u (entries_from u es.items)) w new step → Goes (λ t. pairs_row (t.tree e) es.items) w new step
 dict-made w new e f es (Ask asked kept) h n l c k = absurd k
-dict-made w new e f es (End s) h n l c k = λ t r.
+dict-made w new e f es (End s) h n l c k =
+    let row = λ (t : Reading). pairs_row (t.tree e) es.items in
+    ends-follow eval_group row (λ t u. row t u []) w new s (λ t r.
     let here = k t r in
-    let job = DoEval (TDict (pairs_of (t.tree e))) in
-    let told = pairs_told es.items in
-    let long = ap (λ o. length (pairs_at o)) h in
-    let ends : eval_say (plain t w) job told ≡ Ends (plain t new) (ended_of s) =
-    ap (eval_say (plain t w) job) (sym (append-nil told))
-    ∙ row-past (plain t w) t w e f es.items [] here.0 h (omega (arith, long, l)) (known-read t w es.items c)
-    ∙ ap (λ ps. evaluate_pairs (plain t w) ps (λ fs. make_dict (plain t w) (entries_from (plain t w) (es.items ++ fs))) []) (past-none t.tree (pairs f) (length es.items) n)
-    ∙ ap (λ fs. make_dict (plain t w) (entries_from (plain t w) fs) []) (append-nil es.items)
-    ∙ here.1 in
-    (here.0, subst (λ said. Steps eval_say (eval_stands t) t job told said (End s) new) (sym ends) (refl, refl))
+    let long = ap (λ o. length (pairs_at o)) h in (
+      here.0,
+      row-past (plain t w) t w e f es.items [] here.0 h (omega (arith, long, l)) (known-read t w es.items c)
+          ∙ ap (λ ps. evaluate_pairs (plain t w) ps (λ fs. make_dict (plain t w) (entries_from (plain t w) (es.items ++ fs))) []) (past-none t.tree (pairs f) (length es.items) n)
+          ∙ ap (λ fs. make_dict (plain t w) (entries_from (plain t w) fs) []) (append-nil es.items)
+          ∙ here.1,
+    ))
 
 -- the parts of a pair are expressions
 pub part-holds : (w : Held) (f : Form) (n : ℕ) (p : ℕ × ℕ) → AllHold w (of_form f) → slice_get (pairs f) n ≡ Some p → Holds w (IsExpression p.0) × Holds w (IsExpression p.1)
@@ -242,14 +217,14 @@ dict-alone _ vs o l = absurd o
 
 -- a dict begins with its first key
 pub own-dict : (w new : World) (e : ℕ) (f : Form) (vs : List PyObjectRef) (es : Vec (PyObjectRef × PyObjectRef)) (r : Result (Step EvalKept) OutOfMemory) → slice_get w.forms e ≡ Some f → length (operands f) ≡ length vs → IsOwn own.Dict f → es.items ≡ []
-    → IfOk r (λ step. GoesOn (Key e es) w new step) → IfOk r (λ step. Continues e vs w new step)
-own-dict w new e f vs es (Ok step) h l o n k = λ t r.
-    let here = k t r in
-    let first = here.0.trees e f h in
-    let tree = ap (λ x. TDict (pairs_of x)) first ∙ dict-tree t.text t.tree f o ∙ sym first in
-    let told = ap pairs_told n ∙ ap (map answered) (sym (dict-alone f vs o l)) in
-    let point : (TDict (pairs_of (t.tree e)), pairs_told es.items) ≡ (t.tree e, map answered vs) = λ i. (tree i, told i) in
-    (here.0, subst (λ (p : Tree × Told). Steps eval_say (eval_stands t) t (DoEval p.0) p.1 (eval_say (plain t w) (DoEval p.0) p.1) step new) point here.1)
+    → IfOk r (λ step. Goes (λ t. pairs_row (t.tree e) es.items) w new step) → IfOk r (λ step. Continues e vs w new step)
+unfolding eval_say
+own-dict w new e f vs es (Ok step) h l o n k =
+    goes-read eval_group (λ t. pairs_row (t.tree e) es.items) (λ t. operands_row (t.tree e) vs) w new step (λ t r u more.
+    let first = r.trees e f h in
+    let tree : TDict (pairs_of (t.tree e)) ≡ t.tree e = ap (λ x. TDict (pairs_of x)) first ∙ dict-tree t.text t.tree f o ∙ sym first in
+    let told : map answered vs ≡ pairs_told es.items = ap (map answered) (dict-alone f vs o l) ∙ ap pairs_told (sym n) in
+    ap (λ x. eval_say u (DoEval x) (map answered vs ++ more)) (sym tree) ∙ ap (λ l. dict_say u (pairs_of (t.tree e)) (l ++ more)) told) k
 own-dict w new e f vs es (Err out) h l o n k = tt
 
 -- a dict that is made once its keys are found, in a world that says the same as before

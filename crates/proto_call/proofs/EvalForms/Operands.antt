@@ -1,5 +1,5 @@
 -- Expressions whose operands are evaluated in order.
-use Rattle.proto_call.proofs.Below.{ℕ, zero, suc, List, [], length, map, Some, None, Ok, Err, refl, sym, ap, ◌∙◌, subst, arith, length-append, slice_get, Result, IfOk, Vec, ltb-true, lt-ltb, map-append, length-map, slice_get_within, PyObjectRef, PyStrInterned, OutOfMemory, Raised as Fault, Answer, Value, Done, Number, Truth, Maybe, Objects, Exhausted, Method, Start, Form, Text, Tree, trees_of, list_of, entry_trees, PlainWorld, EvalJob, DoEval, ToEval, Answered, Told, Said, Asks, Ends, Row, on_value, evaluate, Held, Reading, Reads, form_tree, entry_list, stored_entries, spelled, plain, ended_of, Holds, AllHold, IsName, AreNames, AreNodes, IsExpression, AreExpressions, HasForm, of_form, of_node_ref, of_option, expression-in, got-map, node-in, Step, Ask, End, World, Steps, EvalKept, Operands, Word, Kind, one_of, op_say, operand_trees, own_say, func_say, tuple_say, list_say, set_attr_say, del_attr_say, attr_say, called_say, if_say, seq_say, raise_say, class_say, entry_names, eval_say, two_of, answered, eval_stands, Continues, EndsRow, TakesAt, Takes, StepsAt, EndsSo, HasValues, IsOther, IsOwn, operands, operands_at, has_operand, evaluated_tree, args_of, keywords_of}
+use Rattle.proto_call.proofs.Below.{ℕ, zero, suc, List, [], length, map, Some, None, Ok, Err, refl, sym, ap, ◌∙◌, arith, length-append, slice_get, Result, IfOk, Vec, ltb-true, lt-ltb, map-append, length-map, slice_get_within, PyObjectRef, PyStrInterned, OutOfMemory, Raised as Fault, Answer, Value, Done, Number, Truth, Maybe, Objects, Exhausted, Method, Start, Form, Text, Tree, trees_of, list_of, entry_trees, PlainWorld, DoEval, ToEval, Answered, Told, Asks, Ends, Row, on_value, evaluate, Held, Reading, Reads, form_tree, entry_list, stored_entries, spelled, plain, ended_of, Holds, AllHold, IsName, AreNames, AreNodes, IsExpression, AreExpressions, HasForm, of_form, of_node_ref, of_option, expression-in, got-map, node-in, Step, Ask, End, World, EvalKept, Operands, Word, Kind, one_of, op_say, operand_trees, own_say, func_say, tuple_say, list_say, set_attr_say, del_attr_say, attr_say, called_say, if_say, seq_say, raise_say, class_say, entry_names, eval_say, two_of, answered, eval_stands, Continues, EndsRow, HasValues, IsOther, IsOwn, operands, operands_at, has_operand, evaluated_tree, args_of, keywords_of, Goes, Resumes, eval_group, operands_row, value, asks-follow, ends-follow, goes-as, goes-read, subst}
 use Rattle.std.proofs.Common.{◌≡◌, ◌+◌, ◌<◌, ◌≤◌, ◌∷◌, ◌++◌}
 use Rattle.std.specs.Prelude.{Bool}
 use Rattle.py_node.specs.declared.task.PyMethod.TheVariants as method
@@ -113,30 +113,39 @@ operand-holds w (form.Class parts) n e h p =
     append-holds w parts.value.bases.items (map (λ e. e.1) parts.value.keywords.items ++ map (λ e. e.1) parts.value.entries.items) n e h.1.0 (both-hold w (map (λ e. e.1) parts.value.keywords.items) (map (λ e. e.1) parts.value.entries.items) h.1.1.1.0 h.1.1.1.1.1.0) p
 operand-holds w _ n e h p = cc
 
--- a row at an expression of the store is that at its tree
-pub at-tree : (t : Reading) (e : ℕ) (x : Tree) (vs : List PyObjectRef) (old new : World) (next : Step EvalKept) → t.tree e ≡ x → StepsAt t x vs old new next → StepsAt t (t.tree e) vs old new next
-at-tree t e x vs old new next h k = subst (λ x. StepsAt t x vs old new next) (sym h) k
-
 -- the next operand of an expression is evaluated
 pub goes-on : (w : World) (e n m : ℕ) (f : Form) (vs : Vec PyObjectRef) → slice_get w.forms e ≡ Some f → slice_get (operands f) (length vs.items) ≡ Some n
     → ((t : Reading) → Reads t w → t.tree m ≡ evaluated_tree f (t.tree n)) → Continues e vs.items w w (Ask (task.Eval (eval.Eval m)) (Operands e vs))
 unfolding eval_say
-goes-on w e n m f vs h k l = λ t r. (r, step t (r.trees e f h) (l t r))
-  where
-    step : (t : Reading) → t.tree e ≡ form_tree t.text t.tree f → t.tree m ≡ evaluated_tree f (t.tree n) → StepsAt t (t.tree e) vs.items w w (Ask (task.Eval (eval.Eval m)) (Operands e vs))
-    step t q p =
-        let asks : evaluate (plain t w) (operand_trees (t.tree e)) (own_say (plain t w) (t.tree e)) (map answered vs.items) ≡ Asks (plain t w) [] (ToEval (DoEval (t.tree m))) =
-        evaluate-ask (plain t w) (operand_trees (t.tree e)) (own_say (plain t w) (t.tree e)) vs.items (t.tree m) (ap (λ x. slice_get (operand_trees x) (length vs.items)) q ∙ ap (λ ts. slice_get ts (length vs.items)) (operand_trees-form t.text t.tree f) ∙ got-map (λ x. evaluated_tree f (t.tree x)) (operands f) (length vs.items) n k ∙ ap Some (sym p)) in
-        subst (λ said. Steps eval_say (eval_stands t) t (DoEval (t.tree e)) (map answered vs.items) said (Ask (task.Eval (eval.Eval m)) (Operands e vs)) w) (sym asks) (refl, refl, record { says = λ w r more. ap (λ told. eval_say w (DoEval (t.tree e)) (told ++ Answered r ∷ more)) (append-nil (map answered vs.items)) })
+goes-on w e n m f vs h k l =
+    let row = λ (t : Reading). operands_row (t.tree e) vs.items in
+    asks-follow eval_group row (λ t u. row t u []) w w [] (task.Eval (eval.Eval m)) (Operands e vs) (λ t r.
+    let u = plain t w in
+    let x = t.tree e in
+    let got : slice_get (operand_trees x) (length vs.items) ≡ Some (t.tree m) =
+    ap (λ x. slice_get (operand_trees x) (length vs.items)) (r.trees e f h) ∙ ap (λ ts. slice_get ts (length vs.items)) (operand_trees-form t.text t.tree f) ∙ got-map (λ x. evaluated_tree f (t.tree x)) (operands f) (length vs.items) n k ∙ ap Some (sym (l t r)) in
+    (r, ap (evaluate u (operand_trees x) (own_say u x)) (append-nil (map answered vs.items)) ∙ evaluate-ask u (operand_trees x) (own_say u x) vs.items (t.tree m) got)) (λ t u r more. refl)
 
 -- an operand that is answered no object ends the expression so
-pub ends-with : (w : World) (e : ℕ) (vs : List PyObjectRef) (s : Result Answer Fault) → IsOther s → Holds w (HasForm e (has_operand (length vs))) → EndsSo e vs w s
+pub ends-with : (w : World) (e : ℕ) (vs : Vec PyObjectRef) (s : Result Answer Fault) → IsOther s → Holds w (HasForm e (has_operand (length vs.items))) → Resumes (Operands e vs) s w w (End s)
 unfolding Holds eval_say
-ends-with w e vs s o h = λ t r.
+ends-with w e vs s o h =
+    let row = λ (t : Reading). eval_stands t (Operands e vs) (ended_of s) in
+    ends-follow eval_group row (λ t u. row t u []) w w s (λ t r.
     let f = h.0 in
-    let some = there (operands f) (length vs) (ltb-true (length vs) (length (operands f)) h.2) in
-    let asks = evaluate-other (plain t w) (operand_trees (t.tree e)) (own_say (plain t w) (t.tree e)) vs (evaluated_tree f (t.tree some.0)) s [] o (ap (λ x. slice_get (operand_trees x) (length vs)) (r.trees e f h.1) ∙ ap (λ ts. slice_get ts (length vs)) (operand_trees-form t.text t.tree f) ∙ got-map (λ x. evaluated_tree f (t.tree x)) (operands f) (length vs) some.0 some.1) in
-    (r, subst (λ said. Steps eval_say (eval_stands t) t (DoEval (t.tree e)) (map answered vs ++ Answered (ended_of s) ∷ []) said (End s) w) (sym asks) (refl, refl))
+    let some = there (operands f) (length vs.items) (ltb-true (length vs.items) (length (operands f)) h.2) in
+    let asks = evaluate-other (plain t w) (operand_trees (t.tree e)) (own_say (plain t w) (t.tree e)) vs.items (evaluated_tree f (t.tree some.0)) s [] o (ap (λ x. slice_get (operand_trees x) (length vs.items)) (r.trees e f h.1) ∙ ap (λ ts. slice_get ts (length vs.items)) (operand_trees-form t.text t.tree f) ∙ got-map (λ x. evaluated_tree f (t.tree x)) (operands f) (length vs.items) some.0 some.1) in
+    (r, asks))
+
+-- an operand has a value
+pub told-more : (vs : List PyObjectRef) (v : PyObjectRef) (told : Told) → map answered vs ++ answered v ∷ told ≡ map answered (vs ++ v ∷ []) ++ told
+told-more [] v told = refl
+told-more (x ∷ vs) v told = ap (λ l. answered x ∷ l) (told-more vs v told)
+
+pub one-more : (w new : World) (e : ℕ) (vs more : Vec PyObjectRef) (v : PyObjectRef) (r : Result (Step EvalKept) OutOfMemory) → more.items ≡ vs.items ++ v ∷ [] → IfOk r (λ step. Continues e more.items w new step) → IfOk r (λ step. Resumes (Operands e vs) (Ok (Value v)) w new step)
+one-more w new e vs more v (Ok step) is h =
+    goes-as eval_group (λ t. operands_row (t.tree e) more.items) (λ t. eval_stands t (Operands e vs) (value v)) (λ t u told. ap (eval_say u (DoEval (t.tree e))) (told-more vs.items v told ∙ ap (λ l. map answered l ++ told) (sym is))) w new step h
+one-more w new e vs more v (Err x) is h = tt
 
 pub has-operand : (w : Held) (e n : ℕ) (f : Form) (x : ℕ) → slice_get w.forms e ≡ Some f → slice_get (operands f) n ≡ Some x → Holds w (HasForm e (has_operand n))
 unfolding Holds
@@ -162,41 +171,25 @@ own-row u t w e f vs more r h l =
     ap (λ x. length (operand_trees x)) (r.trees e f h) ∙ ap length (operand_trees-form t.text t.tree f) ∙ length-map (operands f) (λ x. evaluated_tree f (t.tree x)) ∙ l in
     evaluate-all u (operand_trees (t.tree e)) (own_say u (t.tree e)) vs more here
 
-own-first : (u : PlainWorld) (t : Reading) (w : World) (e : ℕ) (f : Form) (vs : List PyObjectRef) → Reads t w → slice_get w.forms e ≡ Some f → length (operands f) ≡ length vs → eval_say u (DoEval (t.tree e)) (map answered vs) ≡ own_say u (t.tree e) vs []
-own-first u t w e f vs r h l = ap (eval_say u (DoEval (t.tree e))) (sym (append-nil (map answered vs))) ∙ own-row u t w e f vs [] r h l
-
 -- an expression ends as the row of its own step says
 pub own-closes : (w new : World) (e : ℕ) (f : Form) (vs : List PyObjectRef) (row : Reading → PlainWorld → Row) (next : Step EvalKept) → slice_get w.forms e ≡ Some f → length (operands f) ≡ length vs → ((t : Reading) (u : PlainWorld) → own_say u (form_tree t.text t.tree f) vs [] ≡ row t u []) → EndsRow row w new next → Continues e vs w new next
 own-closes w new e f vs row (Ask asked kept) h l says k = absurd k
-own-closes w new e f vs row (End s) h l says k = λ t r.
+own-closes w new e f vs row (End s) h l says k =
+    let whole = λ (t : Reading). operands_row (t.tree e) vs in
+    ends-follow eval_group whole (λ t u. whole t u []) w new s (λ t r.
     let here = k t r in
-    let told = own-first (plain t w) t w e f vs here.0 h l ∙ ap (λ x. own_say (plain t w) x vs []) (here.0.trees e f h) ∙ says t (plain t w) ∙ here.1 in
-    (here.0, subst (λ said. Steps eval_say (eval_stands t) t (DoEval (t.tree e)) (map answered vs) said (End s) new) (sym told) (refl, refl))
+    (here.0, own-row (plain t w) t w e f vs [] here.0 h l ∙ ap (λ x. own_say (plain t w) x vs []) (here.0.trees e f h) ∙ says t (plain t w) ∙ here.1))
 
 pub append-on : {A : Type 0} (xs ys zs : List A) → (xs ++ ys) ++ zs ≡ xs ++ (ys ++ zs)
 append-on [] ys zs = refl
 append-on (x ∷ xs) ys zs = ap (λ l. x ∷ l) (append-on xs ys zs)
 
--- a point of a row from which it says as another row does
-pub point-takes : (t : Reading) (job : EvalJob) (told : Told) (row : PlainWorld → Row) (new : World) → ((u : PlainWorld) (more : Told) → eval_say u job (told ++ more) ≡ row u more)
-    → (said : Said) (next : Step EvalKept) → TakesAt row t said next new → Steps eval_say (eval_stands t) t job told said next new
-point-takes t job told row new on (Asks u learnt other) (Ask asked kept) k =
-    (k.0, k.1, record { says = λ v s more. ap (eval_say v job) (append-on told learnt (Answered s ∷ more)) ∙ on v (learnt ++ Answered s ∷ more) ∙ k.2 v s more })
-point-takes t job told row new on (Asks u learnt other) (End s) k = absurd k
-point-takes t job told row new on (Ends u s) (Ask asked kept) k = absurd k
-point-takes t job told row new on (Ends u s) (End x) k = k
-
 -- an expression goes on as the row of its own step says
-pub own-takes-read : (w new : World) (e : ℕ) (f : Form) (vs : List PyObjectRef) (row : Reading → PlainWorld → Row) (next : Step EvalKept) → slice_get w.forms e ≡ Some f → length (operands f) ≡ length vs → ((t : Reading) → Reads t w → (u : PlainWorld) (more : Told) → own_say u (form_tree t.text t.tree f) vs more ≡ row t u more) → Takes row w new next → Continues e vs w new next
-own-takes-read w new e f vs row next h l says k = λ t r.
-    let here = k t r in
-    let told = own-first (plain t w) t w e f vs here.0 h l ∙ ap (λ x. own_say (plain t w) x vs []) (here.0.trees e f h) ∙ says t here.0 (plain t w) [] in
-    (here.0, subst (λ said. Steps eval_say (eval_stands t) t (DoEval (t.tree e)) (map answered vs) said next new) (sym told) (point-takes t (DoEval (t.tree e)) (map answered vs) (row t) new (on t here.0) (row t (plain t w) []) next here.1))
-  where
-    on : (t : Reading) → Reads t w → (u : PlainWorld) (more : Told) → eval_say u (DoEval (t.tree e)) (map answered vs ++ more) ≡ row t u more
-    on t r u more = own-row u t w e f vs more r h l ∙ ap (λ x. own_say u x vs more) (r.trees e f h) ∙ says t r u more
+pub own-takes-read : (w new : World) (e : ℕ) (f : Form) (vs : List PyObjectRef) (row : Reading → PlainWorld → Row) (next : Step EvalKept) → slice_get w.forms e ≡ Some f → length (operands f) ≡ length vs → ((t : Reading) → Reads t w → (u : PlainWorld) (more : Told) → own_say u (form_tree t.text t.tree f) vs more ≡ row t u more) → Goes row w new next → Continues e vs w new next
+own-takes-read w new e f vs row next h l says k =
+    goes-read eval_group row (λ t. operands_row (t.tree e) vs) w new next (λ t r u more. own-row u t w e f vs more r h l ∙ ap (λ x. own_say u x vs more) (r.trees e f h) ∙ says t r u more) k
 
-pub own-takes : (w new : World) (e : ℕ) (f : Form) (vs : List PyObjectRef) (row : Reading → PlainWorld → Row) (next : Step EvalKept) → slice_get w.forms e ≡ Some f → length (operands f) ≡ length vs → ((t : Reading) (u : PlainWorld) (more : Told) → own_say u (form_tree t.text t.tree f) vs more ≡ row t u more) → Takes row w new next → Continues e vs w new next
+pub own-takes : (w new : World) (e : ℕ) (f : Form) (vs : List PyObjectRef) (row : Reading → PlainWorld → Row) (next : Step EvalKept) → slice_get w.forms e ≡ Some f → length (operands f) ≡ length vs → ((t : Reading) (u : PlainWorld) (more : Told) → own_say u (form_tree t.text t.tree f) vs more ≡ row t u more) → Goes row w new next → Continues e vs w new next
 own-takes w new e f vs row next h l says k = own-takes-read w new e f vs row next h l (λ t r. says t) k
 
 -- the text of a name is there

@@ -1,4 +1,4 @@
-use Rattle.proto_call.proofs.Lemmas.{End, sym, subst, EndsAs, sorted_ends, told-resumes}
+use Rattle.proto_call.proofs.Lemmas.{End, sym, subst, sorted_ends, told-resumes}
 use Rattle.proto_call.specs.Rows.{Resumes}
 use Rattle.proto_call.specs.declared.CallKept.{CallKept}
 use Rattle.proto_call.proofs.resume.Goals as goal

@@ -1,45 +1,43 @@
 -- What the contracts of the rows of the creation of classes say.
-use Rattle.proto_call.specs.Below.{ℕ, List, [], drop, Result, Ok, Raised as Fault, PyObjectRef, PyStrInterned, TypeNative, TypeType, Answer, Value, ClassTask, Step, Ask, End, PlainWorld, Bindings, ClassJob, DoMakeClass, DoType, Answered, Chose, Made, ReadObjects, ReadNames, Ended, Told, Said, Asks, Ends, Row, value, Pending, fresh, ref, World, Reading, Reads, bindings, class_job, ended_of, plain, spelled, task_of, Group, Follows, Claim, IsClass, IsName, IsNode, Holding, of_binding, of_each}
+use Rattle.proto_call.specs.Below.{ℕ, List, [], drop, Result, Ok, Raised as Fault, PyObjectRef, PyStrInterned, TypeNative, TypeType, Answer, Value, ClassTask, Step, Text, PlainWorld, DoMakeClass, DoType, DoCall, ToCall, Ended, Said, start, pass, end, native_end, on_done, on_value, value, ref, World, Reading, Reads, bindings, class_job, plain, spelled, Group, Follows, Point, Claim, IsClass, IsName, IsNode, Holding, of_binding, of_each}
 use Rattle.std.specs.Prelude.{◌≡◌, ◌∷◌, ◌++◌}
-use Rattle.py_node.specs.declared.entry.TypeNative.TheVariants.{New}
-use Rattle.class_world.specs.Rows as rows
+use Rattle.row_kit.specs.Points as points
 use Rattle.proto_call.specs.declared.class_make.ClassKept.{ClassKept}
 use Rattle.proto_call.specs.declared.class_make.ClassKept.TheVariants.{Pass, Native, NoClass, Binding, Calling, AfterBind, AfterHook}
 use Rattle.proto_call.specs.declared.class_make.tell.Telling.{Telling}
-use Rattle.proto_call.specs.ClassMake.Say.{Space, class_job_say}
+use Rattle.proto_call.specs.ClassMake.Say.{Space, bind_hooks, call_hooks, class_job_say, init_subclass, no_class, unless_raised, without_metaclass}
 
 -- names with values, by the names' numbers
 abbrev pub Bound : Type 0
 Bound = List (PyStrInterned × PyObjectRef)
 
--- the hooks that were found, and what they gave when they were bound
-abbrev pub hooks_told : Bindings → Told → Told
-hooks_told [] more = more
-hooks_told (b ∷ bs) more = ReadObjects (b.1 ∷ []) ∷ (Answered (value b.1) ∷ hooks_told bs more)
-
--- a class that was made, some of whose values have these bound hooks. More of its values follow
-abbrev pub bound_told : PyObjectRef → Bindings → Bindings → Told → Told
-bound_told class hooks rest more = Made class ∷ (ReadNames (hooks ++ rest) ∷ hooks_told hooks more)
-
 -- the names with values that are not told yet
 abbrev pub left : Telling → Bound
 left telling = drop telling.next telling.values.items
 
--- the row that goes on, at each answer, just as the row that the code keeps this for
-abbrev pub class_stands : Reading → ClassKept → Pending ClassJob
-class_stands t Pass = record { task = DoMakeClass 0 [] []; told = [] }
-class_stands t Native = record { task = DoType New [] []; told = [] }
-class_stands t NoClass = record { task = DoMakeClass 0 [] []; told = Chose 0 ∷ [] }
-class_stands t (Binding telling hooks x) = record {
-  task = DoMakeClass 0 [] (bindings t telling.kw.items);
-  told = bound_told (ref telling.class.0) (bindings t hooks.items) ((spelled t x, ref 0) ∷ bindings t (left telling)) (ReadObjects (ref 0 ∷ []) ∷ []);
-}
-class_stands t (Calling telling) = record {
-  task = DoMakeClass 0 [] (bindings t telling.kw.items);
-  told = bound_told (ref telling.class.0) (([], ref 0) ∷ bindings t (left telling)) [] [];
-}
-class_stands t (AfterBind class kw) = record { task = DoMakeClass 0 [] (bindings t kw.items); told = bound_told class [] [] [] }
-class_stands t (AfterHook class) = record { task = DoMakeClass 0 [] []; told = bound_told class [] [] (Answered (value class) ∷ []) }
+-- the row that binds the hooks of some values, where these are bound already
+abbrev pub bind_row : PyObjectRef → Bound → Bound → Bound → Reading → Point
+bind_row class kw hooks vs t u =
+    bind_hooks u (bindings t vs) (λ bs. call_hooks u class (bindings t hooks ++ bs) (init_subclass u class (bindings t kw)))
+
+-- the row that calls bound hooks
+abbrev pub call_row : PyObjectRef → Bound → Bound → Reading → Point
+call_row class kw hooks t u = call_hooks u class (bindings t hooks) (init_subclass u class (bindings t kw))
+
+-- the same, where one more is bound
+abbrev pub bind_row_with : PyObjectRef → Bound → Bound → Text × PyObjectRef → Bound → Reading → Point
+bind_row_with class kw hooks b vs t u =
+    bind_hooks u (bindings t vs) (λ bs. call_hooks u class (bindings t hooks ++ b ∷ bs) (init_subclass u class (bindings t kw)))
+
+-- what is done with the answer where this is kept
+abbrev pub class_stands : Reading → ClassKept → Ended → Point
+class_stands t Pass r w = end w r
+class_stands t Native r w = native_end w r
+class_stands t NoClass r w = no_class w r
+class_stands t (Binding telling hooks x) r w = on_value w r (λ b. bind_row_with (ref telling.class.0) telling.kw.items hooks.items (spelled t x, b) (left telling) t w)
+class_stands t (Calling telling) r w = unless_raised w r (call_row (ref telling.class.0) telling.kw.items (left telling) t w)
+class_stands t (AfterBind class kw) r w = on_value w r (λ b. start (pass w (ToCall (DoCall b [] (without_metaclass (bindings t kw.items))))) (λ s. on_done w s (end w (value class))))
+class_stands t (AfterHook class) r w = on_done w r (end w (value class))
 
 abbrev pub of_telling : Telling → List Claim
 of_telling telling = IsClass telling.class.0 ∷ of_each of_binding telling.kw.items ++ of_each of_binding telling.values.items
@@ -58,15 +56,19 @@ of_class_kept (AfterHook class) = IsNode class ∷ []
 abbrev pub of_class_node : PyObjectRef → List Claim
 of_class_node r = Holding r TypeType ∷ []
 
--- the group: its jobs, what they say, what goes on, and what is claimed of that
-abbrev pub class_group : Group ClassTask ClassJob ClassKept
-class_group = record { job = class_job; say = class_job_say; stands = class_stands; claims = of_class_kept }
+-- the group: the row of a task, and what is done with an answer
+abbrev pub class_group : Group ClassTask ClassKept
+class_group = record { row = λ t task w. class_job_say w (class_job t task); stands = class_stands }
+
+-- the step from a point of a row
+abbrev pub Goes : (Reading → Point) → World → World → Step ClassKept → Type 0
+Goes = points.Goes class_group
 
 abbrev pub Begins : ClassTask → World → World → Step ClassKept → Type 0
-Begins = rows.Begins class_group
+Begins = points.Begins class_group
 
 abbrev pub Resumes : ClassKept → Result Answer Fault → World → World → Step ClassKept → Type 0
-Resumes = rows.Resumes class_group
+Resumes = points.Resumes class_group
 
 -- an answer that is no object
 abbrev pub IsOther : Result Answer Fault → Type 0
@@ -76,24 +78,13 @@ IsOther _ = Unit {0}
 -- the step that is said to follow in the making of a class with these keywords, whatever its metaclass and its arguments are
 abbrev pub Makes : Bound → (Reading → PlainWorld → Said) → World → World → Step ClassKept → Type 0
 Makes kw said old new step =
-    (meta : ℕ) (args : List PyObjectRef) → Follows class_job_say class_stands (λ t. fresh (DoMakeClass meta args (bindings t kw))) said old new step
+    (meta : ℕ) (args : List PyObjectRef) → Follows class_group (λ t u. class_job_say u (DoMakeClass meta args (bindings t kw))) said old new step
 
 -- the step that is said to follow at a native of `type`
 abbrev pub Types : (Reading → PlainWorld → Said) → World → World → Step ClassKept → Type 0
 Types said old new step =
-    (n : TypeNative) (args : List PyObjectRef) (kw : Bound) → Follows class_job_say class_stands (λ t. fresh (DoType n args (bindings t kw))) said old new step
+    (n : TypeNative) (args : List PyObjectRef) (kw : Bound) → Follows class_group (λ t u. class_job_say u (DoType n args (bindings t kw))) said old new step
 
 -- the attributes after a change of them and of the world
 abbrev pub Becomes : (Reading → Space → Space) → World → Bound → World → Bound → Type 0
 Becomes change old attrs new more = (t : Reading) → Reads t new → ◌≡◌ {A = Space} (plain t new, bindings t more) (change t (plain t old, bindings t attrs))
-
--- a step is what a row of its own says first. What is kept stands for the making of a class that goes on as that row does
-abbrev pub TakesAt : (PlainWorld → Row) → Reading → Said → Step ClassKept → World → Type 0
-TakesAt row t (Asks w learnt other) (Ask asked kept) new =
-    (task_of t asked ≡ other) × (plain t new ≡ w) × ((u : PlainWorld) (r : Ended) (more : Told) → row u (learnt ++ Answered r ∷ more) ≡ class_job_say u (class_stands t kept).task ((class_stands t kept).told ++ Answered r ∷ more))
-TakesAt row t (Asks w learnt other) (End r) new = ⊥
-TakesAt row t (Ends w r) (Ask asked kept) new = ⊥
-TakesAt row t (Ends w r) (End s) new = (ended_of s ≡ r) × (plain t new ≡ w)
-
-abbrev pub Takes : (Reading → PlainWorld → Row) → World → World → Step ClassKept → Type 0
-Takes row old new step = (t : Reading) → Reads t new → Reads t old × TakesAt (row t) t (row t (plain t old) []) step new

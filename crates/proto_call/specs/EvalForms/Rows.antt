@@ -1,70 +1,22 @@
 -- What the contracts of the rows of expressions say.
-use Rattle.proto_call.specs.Below.{ℕ, zero, suc, ltb, Bool, List, [], map, length, Option, Some, None, Result, Ok, slice_get, Raised as Fault, PyObjectRef, Binary, Sequence, Object, SequenceWord, Add, Answer, Value, EvalTask, PyStrInterned, Step, Ask, End, Form, literal_of, Tree, TAttr, TCall, TDelAttr, TDict, TIf, TOp, KeyedTrees, no_keyed, Trees, tree, no_trees, Entries, no_entries, TConst, LNone, Bindings, PlainWorld, EvalJob, DoEval, DoInvoke, DoCall, PlainTask, ToAttribute, ToCall, Ended, Fact, Answered, Told, Said, Asks, Ends, Row, value, Pending, World, Reading, Reads, plain, eval_job, method_of, method_target, method_func, task_of, ended_of, Group, Goes, Steps, of_method, Claim, IsNode, AreNodes, IsExpression, HasForm, of_pairs}
+use Rattle.proto_call.specs.Below.{ℕ, ltb, Bool, List, [], map, length, Option, Some, None, Result, Ok, slice_get, Raised as Fault, PyObjectRef, Answer, Value, EvalTask, PyStrInterned, Step, Ask, End, Form, literal_of, Tree, TCall, TDict, KeyedTrees, no_keyed, Trees, no_trees, Entries, no_entries, Bindings, PlainWorld, DoEval, DoInvoke, DoCall, PlainTask, ToAttribute, ToCall, Ended, Fact, Answered, Told, Ends, Row, end, value, World, Reading, Reads, plain, eval_job, method_target, method_func, ended_of, Group, Point, of_method, Claim, IsNode, AreNodes, IsExpression, HasForm, of_pairs}
 use Rattle.std.specs.Prelude.{◌≡◌, ◌∷◌, ◌++◌}
-use Rattle.py_node.specs.declared.expr.SequenceWord.TheVariants as sequence
-use Rattle.py_node.specs.declared.expr.ObjectWord.TheVariants as object
 use Rattle.py_node.specs.declared.payload.Form.TheVariants as form
-use Rattle.class_world.specs.Rows as rows
+use Rattle.row_kit.specs.Points as points
 use Rattle.proto_call.specs.declared.eval_forms.EvalKept.{EvalKept}
 use Rattle.proto_call.specs.declared.eval_forms.EvalKept.TheVariants.{Pass, Made, Count, Start, Stop, Branch, Operands, Load, Arguments, Key, Value as OfKey}
 use Rattle.proto_call.specs.declared.eval_forms.call_form.Called.{Called}
 use Rattle.proto_call.specs.declared.eval_forms.call_form.Called.TheVariants as called
-use Rattle.proto_call.specs.declared.eval_forms.bounds.Counted.{Counted}
-use Rattle.proto_call.specs.declared.eval_forms.bounds.Counted.TheVariants as counted
 use Rattle.proto_call.specs.declared.eval_forms.bounds.Part.{Part}
 use Rattle.proto_call.specs.declared.eval_forms.bounds.Part.TheVariants as part
-use Rattle.proto_call.specs.declared.eval_forms.outcome.Outcome.{Outcome}
-use Rattle.proto_call.specs.declared.eval_forms.outcome.Outcome.TheVariants as outcome
 use Rattle.proto_call.specs.declared.eval_forms.Own.{Own}
 use Rattle.proto_call.specs.declared.eval_forms.Own.TheVariants as own
-use Rattle.proto_call.specs.EvalForms.Say.{Pairs, callee_tree, eval_say}
+use Rattle.proto_call.specs.EvalForms.Say.{Pairs, arguments_say, branch_say, callee_tree, dict_say, eval_say, invoke_say, on_method}
+use Rattle.proto_call.specs.EvalForms.Words.{counted_by, made, part_start, part_stop}
 
 -- the values of the operands so far, as they were learnt
 abbrev pub answered : PyObjectRef → Fact
 answered v = Answered (value v)
-
--- an expression whose operands have been evaluated, and which passes on what it then asked
-abbrev pub passing : Tree
-passing = TOp (Binary Add) (tree (TConst LNone) (tree (TConst LNone) no_trees))
-
--- an operation on so many operands, whatever they are
-abbrev pub any : ℕ → Trees
-any zero = no_trees
-any (suc n) = tree (TConst LNone) (any n)
-
--- some object
-abbrev pub nil : PyObjectRef
-nil = record { 0 = 0 }
-
-abbrev pub passed : List PyObjectRef
-passed = nil ∷ nil ∷ []
-
--- an expression of which this is made
-abbrev pub outcome_tree : Outcome → Tree
-outcome_tree outcome.Same = TOp (Object object.Repr) (any 1)
-outcome_tree outcome.Nothing = TDelAttr (TConst LNone) []
-outcome_tree outcome.Truth = TOp (Object object.Bool) (any 1)
-outcome_tree outcome.Negated = TOp (Object object.Not) (any 1)
-outcome_tree outcome.Number = TOp (Sequence sequence.Len) (any 1)
-outcome_tree outcome.List = TOp (Sequence sequence.ToList) (any 1)
-outcome_tree outcome.Tuple = TOp (Sequence sequence.ToTuple) (any 1)
-outcome_tree outcome.Item = TOp (Sequence sequence.Next) (any 1)
-
--- the word whose second operand stands for a number
-abbrev pub counted_word : Counted → SequenceWord
-counted_word counted.Repeat = sequence.Repeat
-counted_word counted.InplaceRepeat = sequence.InplaceRepeat
-counted_word counted.Hint = sequence.Hint
-
--- an expression that does this with a part of a sequence, and what it learns of the operand that no other has
-abbrev pub part_tree : Part → Tree
-part_tree part.Get = TOp (Sequence sequence.Slice) (any 3)
-part_tree (part.Set v) = TOp (Sequence sequence.SetSlice) (any 4)
-part_tree part.Delete = TOp (Sequence sequence.DelSlice) (any 3)
-
-abbrev pub part_values : Part → List PyObjectRef
-part_values (part.Set v) = v ∷ []
-part_values _ = []
 
 -- the arguments of a call, and its keywords
 abbrev pub args_of : Tree → Trees
@@ -74,19 +26,6 @@ args_of _ = no_trees
 abbrev pub keywords_of : Tree → Entries
 keywords_of (TCall f es kw) = kw
 keywords_of _ = no_entries
-
--- a call of a method with the arguments and keywords of a call, whatever object has it and whatever its name is
-abbrev pub method_call : Tree → Tree
-method_call x = TCall (TAttr (TConst LNone) []) (args_of x) (keywords_of x)
-
--- a call that has learnt what it calls
-abbrev pub called_tree : Called → Tree → Tree
-called_tree (called.Object f) x = TCall (TConst LNone) (args_of x) (keywords_of x)
-called_tree (called.Method m) x = method_call x
-
-abbrev pub called_told : Called → Told
-called_told (called.Object f) = answered f ∷ []
-called_told (called.Method m) = answered nil ∷ Answered (Ok (method_of m)) ∷ []
 
 -- the pairs of a dict
 abbrev pub pairs_of : Tree → KeyedTrees
@@ -98,26 +37,36 @@ abbrev pub pairs_told : Pairs → Told
 pairs_told [] = []
 pairs_told (e ∷ es) = answered e.0 ∷ answered e.1 ∷ pairs_told es
 
--- the row that goes on, at each answer, just as the row that the code keeps this for
-abbrev pub eval_stands : Reading → EvalKept → Pending EvalJob
-eval_stands t Pass = record { task = DoEval passing; told = map answered passed }
-eval_stands t (Made o) = record { task = DoEval (outcome_tree o); told = answered nil ∷ [] }
-eval_stands t (Count k o) =
-    record { task = DoEval (TOp (Sequence (counted_word k)) (any 2)); told = answered o ∷ answered nil ∷ [] }
-eval_stands t (Start p o j) =
-    record { task = DoEval (part_tree p); told = answered o ∷ answered nil ∷ answered j ∷ map answered (part_values p) }
-eval_stands t (Stop p o i) =
-    record { task = DoEval (part_tree p); told = answered o ∷ answered nil ∷ answered nil ∷ (map answered (part_values p) ++ answered i ∷ []) }
-eval_stands t (Branch a b) =
-    record { task = DoEval (TIf (TConst LNone) (t.tree a) (t.tree b)); told = answered nil ∷ [] }
-eval_stands t (Operands e vs) = record { task = DoEval (t.tree e); told = map answered vs.items }
-eval_stands t (Load e) =
-    record { task = DoEval (method_call (t.tree e)); told = answered nil ∷ [] }
-eval_stands t (Arguments e f vs) =
-    record { task = DoEval (called_tree f (t.tree e)); told = called_told f ++ map answered vs.items }
-eval_stands t (Key e es) = record { task = DoEval (TDict (pairs_of (t.tree e))); told = pairs_told es.items }
-eval_stands t (OfKey e es k) =
-    record { task = DoEval (TDict (pairs_of (t.tree e))); told = pairs_told es.items ++ answered k ∷ [] }
+-- the task that calls it
+abbrev pub called_task : Called → List PyObjectRef → Bindings → PlainTask
+called_task (called.Object f) args kw = ToCall (DoCall f args kw)
+called_task (called.Method m) args kw = ToAttribute (DoInvoke (method_target m) (method_func m) args kw)
+
+-- the row of an expression whose operands have these values so far
+abbrev pub operands_row : Tree → List PyObjectRef → Point
+operands_row x vs w told = eval_say w (DoEval x) (map answered vs ++ told)
+
+-- the row of a call that has learnt what it calls, and whose arguments, and then keywords, have these values so far
+abbrev pub arguments_row : Tree → Called → List PyObjectRef → Point
+arguments_row x f vs w told = arguments_say w (args_of x) (keywords_of x) (called_task f) (map answered vs ++ told)
+
+-- the row of a dict with these pairs so far
+abbrev pub pairs_row : Tree → Pairs → Point
+pairs_row x es w told = dict_say w (pairs_of x) (pairs_told es ++ told)
+
+-- what is done with the answer where this is kept
+abbrev pub eval_stands : Reading → EvalKept → Ended → Point
+eval_stands t Pass r w = end w r
+eval_stands t (Made o) r w = made w o r
+eval_stands t (Count k o) r w = counted_by w k o r
+eval_stands t (Start p o j) r w = part_start w p o j r
+eval_stands t (Stop p o i) r w = part_stop w p o (value i) r
+eval_stands t (Branch a b) r w = branch_say w (t.tree a) (t.tree b) r
+eval_stands t (Operands e vs) r w told = operands_row (t.tree e) vs.items w (Answered r ∷ told)
+eval_stands t (Load e) r w = on_method w r (invoke_say w (args_of (t.tree e)) (keywords_of (t.tree e)))
+eval_stands t (Arguments e f vs) r w told = arguments_row (t.tree e) f vs.items w (Answered r ∷ told)
+eval_stands t (Key e es) r w told = pairs_row (t.tree e) es.items w (Answered r ∷ told)
+eval_stands t (OfKey e es k) r w told = pairs_row (t.tree e) es.items w (answered k ∷ Answered r ∷ told)
 
 -- the operands of an expression of the store, in order
 abbrev pub operands : Form → List ℕ
@@ -185,11 +134,6 @@ pairs_at (Some f) = pairs f
 abbrev pub has_pair : ℕ → Form → Bool
 has_pair n f = ltb n (length (pairs f))
 
--- the task that calls it
-abbrev pub called_task : Called → List PyObjectRef → Bindings → PlainTask
-called_task (called.Object f) args kw = ToCall (DoCall f args kw)
-called_task (called.Method m) args kw = ToAttribute (DoInvoke (method_target m) (method_func m) args kw)
-
 abbrev pub of_called : Called → List Claim
 of_called (called.Object f) = IsNode f ∷ []
 of_called (called.Method m) = of_method m
@@ -214,27 +158,23 @@ of_eval_kept (Key e es) = IsExpression e ∷ HasForm e (has_pair (length es.item
 of_eval_kept (OfKey e es k) =
     IsExpression e ∷ HasForm e (has_pair (length es.items)) ∷ IsNode k ∷ of_pairs es.items
 
--- the group: its jobs, what they say, what goes on, and what is claimed of that
-abbrev pub eval_group : Group EvalTask EvalJob EvalKept
-eval_group = record { job = eval_job; say = eval_say; stands = eval_stands; claims = of_eval_kept }
+-- the group: the row of a task, and what is done with an answer
+abbrev pub eval_group : Group EvalTask EvalKept
+eval_group = record { row = λ t task w. eval_say w (eval_job t task); stands = eval_stands }
+
+-- the step from a point of a row
+abbrev pub Goes : (Reading → Point) → World → World → Step EvalKept → Type 0
+Goes = points.Goes eval_group
 
 abbrev pub Begins : EvalTask → World → World → Step EvalKept → Type 0
-Begins = rows.Begins eval_group
+Begins = points.Begins eval_group
 
 abbrev pub Resumes : EvalKept → Result Answer Fault → World → World → Step EvalKept → Type 0
-Resumes = rows.Resumes eval_group
-
--- a row that the code could keep this for
-abbrev pub GoesOn : EvalKept → World → World → Step EvalKept → Type 0
-GoesOn kept = Goes eval_say eval_stands (λ t. eval_stands t kept)
+Resumes = points.Resumes eval_group
 
 -- the row of an expression whose operands have these values so far
 abbrev pub Continues : ℕ → List PyObjectRef → World → World → Step EvalKept → Type 0
-Continues e vs = Goes eval_say eval_stands (λ t. record { task = DoEval (t.tree e); told = map answered vs })
-
--- the same of an expression by its tree
-abbrev pub ContinuesTree : (Reading → Tree) → List PyObjectRef → World → World → Step EvalKept → Type 0
-ContinuesTree spell vs = Goes eval_say eval_stands (λ t. record { task = DoEval (spell t); told = map answered vs })
+Continues e vs = Goes (λ t. operands_row (t.tree e) vs)
 
 -- what is kept of an expression's own step is that of the expression
 abbrev pub IsOwn : Own → Form → Type 0
@@ -276,21 +216,6 @@ IsOwn (own.Class x n ks xs) _ = ⊥
 abbrev pub HasValues : World → ℕ → List PyObjectRef → Type 0
 HasValues w e vs = length (operands_at (slice_get w.forms e)) ≡ length vs
 
--- a step from a point of the row of a tree, under one reading
-abbrev pub StepsAt : Reading → Tree → List PyObjectRef → World → World → Step EvalKept → Type 0
-StepsAt t x vs old new next = Steps eval_say (eval_stands t) t (DoEval x) (map answered vs) (eval_say (plain t old) (DoEval x) (map answered vs)) next new
-
--- a step is what a row of its own says first. What is kept stands for an expression that goes on as that row does
-abbrev pub TakesAt : (PlainWorld → Row) → Reading → Said → Step EvalKept → World → Type 0
-TakesAt row t (Asks w learnt other) (Ask asked kept) new =
-    (task_of t asked ≡ other) × (plain t new ≡ w) × ((u : PlainWorld) (r : Ended) (more : Told) → row u (learnt ++ Answered r ∷ more) ≡ eval_say u (eval_stands t kept).task ((eval_stands t kept).told ++ Answered r ∷ more))
-TakesAt row t (Asks w learnt other) (End r) new = ⊥
-TakesAt row t (Ends w r) (Ask asked kept) new = ⊥
-TakesAt row t (Ends w r) (End s) new = (ended_of s ≡ r) × (plain t new ≡ w)
-
-abbrev pub Takes : (Reading → PlainWorld → Row) → World → World → Step EvalKept → Type 0
-Takes row old new step = (t : Reading) → Reads t new → Reads t old × TakesAt (row t) t (row t (plain t old) []) step new
-
 -- a step ends a row, as the row says under every reading
 abbrev pub EndsRow : (Reading → PlainWorld → Row) → World → World → Step EvalKept → Type 0
 EndsRow row old new (Ask asked kept) = ⊥
@@ -300,7 +225,3 @@ EndsRow row old new (End r) = (t : Reading) → Reads t new → Reads t old × (
 abbrev pub IsOther : Result Answer Fault → Type 0
 IsOther (Ok (Value r)) = ⊥
 IsOther _ = Unit {0}
-
--- an expression ends as its operand did
-abbrev pub EndsSo : ℕ → List PyObjectRef → World → Result Answer Fault → Type 0
-EndsSo e vs w r = Goes eval_say eval_stands (λ t. record { task = DoEval (t.tree e); told = map answered vs ++ Answered (ended_of r) ∷ [] }) w w (End r)

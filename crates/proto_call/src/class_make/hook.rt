@@ -4,7 +4,7 @@ ghost use Rattle.proto_call.specs.Below.{filter, not, Ok, IfOk, IfSome, is_same_
 ghost use Rattle.std.specs.Prelude.{◌≡◌};
 ghost use Rattle.py_node.specs.declared.task.Answer.TheVariants as answer;
 ghost use Rattle.proto_call.specs.ClassMake.Say.{init_subclass};
-ghost use Rattle.proto_call.specs.ClassMake.Rows.{Resumes, Takes, of_class_kept};
+ghost use Rattle.proto_call.specs.ClassMake.Rows.{Goes, Resumes, of_class_kept};
 
 use crate::class_make::ClassKept;
 use class_world::World;
@@ -24,7 +24,7 @@ pub(crate) fn init_subclass(
     requires class { Holds world.old (IsClass class.0) }
     requires kw { AllHold world.old (of_each of_binding kw.items) }
     ensures goes { IfOk result (λ step.
-        Takes (λ t u. init_subclass u (ref class.0) (bindings t kw.items)) world.old world.new step) }
+        Goes (λ t u. init_subclass u (ref class.0) (bindings t kw.items)) world.old world.new step) }
     ensures safe { Leaves of_class_kept world.old world.new result }
 {
     let method = world.class_attr_past(class, world.known(Known::InitSubclass));

@@ -3,7 +3,7 @@
 ghost use Rattle.proto_call.specs.Below.{drop, slice_get, Ok, IfErr, IfOk, of_ended, Leaves, Reading, Reads, bindings, plain, IsClass, IsName, Holds, AllHold, of_binding, of_each, ref};
 ghost use Rattle.std.specs.Prelude.{◌≡◌, ◌++◌};
 ghost use Rattle.proto_call.specs.ClassMake.Say.{bind_hooks, call_hooks, init_subclass, own_values, tell};
-ghost use Rattle.proto_call.specs.ClassMake.Rows.{IsOther, Resumes, Takes, of_class_kept, of_telling};
+ghost use Rattle.proto_call.specs.ClassMake.Rows.{Goes, IsOther, Resumes, of_class_kept, of_telling};
 
 use crate::class_make::ClassKept;
 use crate::class_make::hook::init_subclass;
@@ -34,7 +34,7 @@ pub(crate) fn tell(
     requires class { Holds world.old (IsClass class.0) }
     requires kw { AllHold world.old (of_each of_binding kw.items) }
     ensures goes { IfOk result (λ step.
-        Takes (λ t u. tell u (ref class.0) (bindings t kw.items)) world.old world.new step) }
+        Goes (λ t u. tell u (ref class.0) (bindings t kw.items)) world.old world.new step) }
     ensures safe { Leaves of_class_kept world.old world.new result }
 {
     let alloc = world.alloc();
@@ -78,7 +78,7 @@ fn bind_next(
 ) -> Result<Step<ClassKept>, OutOfMemory>
     requires telling { AllHold world.old (of_telling telling) }
     requires hooks { AllHold world.old (of_each of_binding hooks.items) }
-    ensures goes { IfOk result (λ step. Takes (λ t u.
+    ensures goes { IfOk result (λ step. Goes (λ t u.
         bind_hooks u (bindings t (drop telling.next telling.values.items)) (λ bs.
         call_hooks u (ref telling.class.0) (bindings t hooks.items ++ bs)
         (init_subclass u (ref telling.class.0) (bindings t telling.kw.items)))) world.old world.new step) }
@@ -160,7 +160,7 @@ fn object_of(answer: Result<Answer, Raised>) -> Result<PyObjectRef, Result<Answe
 // Calls the next bound hook with the class and the name, a new text.
 fn call_next(world: &mut World, telling: Telling) -> Result<Step<ClassKept>, OutOfMemory>
     requires { AllHold world.old (of_telling telling) }
-    ensures goes { IfOk result (λ step. Takes (λ t u.
+    ensures goes { IfOk result (λ step. Goes (λ t u.
         call_hooks u (ref telling.class.0) (bindings t (drop telling.next telling.values.items))
         (init_subclass u (ref telling.class.0) (bindings t telling.kw.items))) world.old world.new step) }
     ensures safe { Leaves of_class_kept world.old world.new result }

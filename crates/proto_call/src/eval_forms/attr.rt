@@ -2,7 +2,7 @@
 
 ghost use Rattle.proto_call.specs.Below.{AllHold, Holds, IsName, AreNodes, of_node_ref, of_option, of_step, two_of};
 ghost use Rattle.proto_call.specs.EvalForms.Say.{attr_say, del_attr_say, set_attr_say};
-ghost use Rattle.proto_call.specs.EvalForms.Rows.{Takes, of_eval_kept};
+ghost use Rattle.proto_call.specs.EvalForms.Rows.{Goes, of_eval_kept};
 
 use crate::eval_forms::EvalKept;
 use crate::eval_forms::outcome::Outcome;
@@ -12,7 +12,7 @@ use py_node::{AttributeTask, Cause, PyObjectRef, PySetterValue, PyStrInterned, S
 
 // An attribute of the operand.
 pub(crate) fn attr_step(name: PyStrInterned, value: Option<PyObjectRef>) -> Step<EvalKept>
-    ensures goes { (w : World) → Takes (λ t u. attr_say u (t.text name.0) value) w w result }
+    ensures goes { (w : World) → Goes (λ t u. attr_say u (t.text name.0) value) w w result }
     ensures safe { (w : World) → Holds w (IsName name) → AllHold w (of_option of_node_ref value) →
         AllHold w (of_step of_eval_kept result) }
 {
@@ -27,7 +27,7 @@ pub(crate) fn attr_step(name: PyStrInterned, value: Option<PyObjectRef>) -> Step
 
 // An attribute is set to the second operand.
 pub(crate) fn set_attr_step(name: PyStrInterned, values: &[PyObjectRef]) -> Step<EvalKept>
-    ensures goes { (w : World) → Takes (λ t u. set_attr_say u (t.text name.0) (two_of values.now)) w w result }
+    ensures goes { (w : World) → Goes (λ t u. set_attr_say u (t.text name.0) (two_of values.now)) w w result }
     ensures safe { (w : World) → Holds w (IsName name) → Holds w (AreNodes values.now) →
         AllHold w (of_step of_eval_kept result) }
 {
@@ -42,7 +42,7 @@ pub(crate) fn set_attr_step(name: PyStrInterned, values: &[PyObjectRef]) -> Step
 
 // An attribute of the operand is taken out.
 pub(crate) fn del_attr_step(name: PyStrInterned, value: Option<PyObjectRef>) -> Step<EvalKept>
-    ensures goes { (w : World) → Takes (λ t u. del_attr_say u (t.text name.0) value) w w result }
+    ensures goes { (w : World) → Goes (λ t u. del_attr_say u (t.text name.0) value) w w result }
     ensures safe { (w : World) → Holds w (IsName name) → AllHold w (of_option of_node_ref value) →
         AllHold w (of_step of_eval_kept result) }
 {

@@ -4,7 +4,7 @@ ghost use Rattle.proto_call.specs.Below.{ℤ, cond, Err, IfErr, IfOk, None, Some
 ghost use Rattle.std.specs.Prelude.{◌≡◌};
 ghost use Rattle.py_node.specs.declared.protocol.ProtocolTask.TheVariants as protocol;
 ghost use Rattle.proto_call.specs.EvalForms.Words.{counted_outcome, counted_say, counted_task, del_slice_say, part_outcome, part_say, part_task, set_slice_say, slice_say, with_index};
-ghost use Rattle.proto_call.specs.EvalForms.Rows.{Resumes, Takes, of_eval_kept, of_part};
+ghost use Rattle.proto_call.specs.EvalForms.Rows.{Goes, Resumes, of_eval_kept, of_part};
 
 use crate::eval_forms::outcome::Outcome;
 use crate::eval_forms::{EvalKept, object_of};
@@ -31,7 +31,7 @@ pub enum Part {
 
 // The second operand is asked for its number.
 pub(crate) fn counted_step(counted: Counted, values: &[PyObjectRef]) -> Step<EvalKept>
-    ensures goes { (w : World) → Takes (λ t u. counted_say u counted (two_of values.now)) w w result }
+    ensures goes { (w : World) → Goes (λ t u. counted_say u counted (two_of values.now)) w w result }
     ensures safe { (w : World) → Holds w (AreNodes values.now) → AllHold w (of_step of_eval_kept result) }
 {
     match two_of(values) {
@@ -84,7 +84,7 @@ fn counted_outcome(counted: Counted) -> Outcome
 // A part of the first operand, from the second to the third.
 #[tactic(auto, using(class_world::proofs::Items::item_holds))]
 pub(crate) fn slice_step(values: &[PyObjectRef]) -> Step<EvalKept>
-    ensures goes { (w : World) → Takes (λ t u. slice_say u values.now) w w result }
+    ensures goes { (w : World) → Goes (λ t u. slice_say u values.now) w w result }
     ensures safe { (w : World) → Holds w (AreNodes values.now) → AllHold w (of_step of_eval_kept result) }
 {
     match values {
@@ -96,7 +96,7 @@ pub(crate) fn slice_step(values: &[PyObjectRef]) -> Step<EvalKept>
 // Such a part is set to the items of the fourth operand.
 #[tactic(auto, using(class_world::proofs::Items::item_holds))]
 pub(crate) fn set_slice_step(values: &[PyObjectRef]) -> Step<EvalKept>
-    ensures goes { (w : World) → Takes (λ t u. set_slice_say u values.now) w w result }
+    ensures goes { (w : World) → Goes (λ t u. set_slice_say u values.now) w w result }
     ensures safe { (w : World) → Holds w (AreNodes values.now) → AllHold w (of_step of_eval_kept result) }
 {
     match values {
@@ -108,7 +108,7 @@ pub(crate) fn set_slice_step(values: &[PyObjectRef]) -> Step<EvalKept>
 // Such a part is taken out.
 #[tactic(auto, using(class_world::proofs::Items::item_holds))]
 pub(crate) fn del_slice_step(values: &[PyObjectRef]) -> Step<EvalKept>
-    ensures goes { (w : World) → Takes (λ t u. del_slice_say u values.now) w w result }
+    ensures goes { (w : World) → Goes (λ t u. del_slice_say u values.now) w w result }
     ensures safe { (w : World) → Holds w (AreNodes values.now) → AllHold w (of_step of_eval_kept result) }
 {
     match values {
@@ -124,7 +124,7 @@ fn part_step(
     start: PyObjectRef,
     stop: PyObjectRef,
 ) -> Step<EvalKept>
-    ensures goes { (w : World) → Takes (λ t u. part_say u part object start stop) w w result }
+    ensures goes { (w : World) → Goes (λ t u. part_say u part object start stop) w w result }
     ensures safe { (w : World) → Holds w (IsNode object) → Holds w (IsNode start) → Holds w (IsNode stop) →
         AllHold w (of_part part) → AllHold w (of_step of_eval_kept result) }
 {

@@ -4,7 +4,7 @@
 ghost use Rattle.proto_call.specs.Below.{[], length, map, slice_get, IfOk, start, pass, end, AllHold, Holds, IsExpression, IsNode, AreNames, AreNodes, of_node_ref, of_option, of_args, of_ended, of_step, of_task, Reading, Reads, bindings, spelled, task_of};
 ghost use Rattle.std.specs.Prelude.{◌≡◌, ◌+◌, ◌≤◌};
 ghost use Rattle.proto_call.specs.EvalForms.Say.{callee_say, callee_tree, called_say, given_say};
-ghost use Rattle.proto_call.specs.EvalForms.Rows.{Takes, Resumes, GoesOn, args_of, arguments, arguments_at, attribute, called_task, evaluated_tree, keywords_of, named, of_called, of_eval_kept, positional};
+ghost use Rattle.proto_call.specs.EvalForms.Rows.{Goes, Resumes, args_of, arguments, arguments_at, arguments_row, attribute, called_task, evaluated_tree, keywords_of, named, of_called, of_eval_kept, positional};
 
 use crate::eval_forms::keywords::{list_of, unrepeated};
 use crate::eval_forms::operand::entry_value;
@@ -70,7 +70,7 @@ pub(crate) fn call_step(
     requires call { Holds world.now (IsExpression e) }
     requires func { Holds world.now (IsExpression func) }
     requires value { AllHold world.now (of_option of_node_ref value) }
-    ensures goes { IfOk result (λ step. Takes (λ t u.
+    ensures goes { IfOk result (λ step. Goes (λ t u.
         called_say u (t.tree func) (args_of (t.tree e)) (keywords_of (t.tree e)) value) world.now world.now step) }
     ensures safe { IfOk result (λ step. AllHold world.now (of_step of_eval_kept step)) }
 {
@@ -90,7 +90,7 @@ fn callee_step(
     requires call { Holds world.now (IsExpression e) }
     requires func { Holds world.now (IsExpression func) }
     requires value { Holds world.now (IsNode value) }
-    ensures goes { IfOk result (λ step. Takes (λ t u.
+    ensures goes { IfOk result (λ step. Goes (λ t u.
         callee_say u (t.tree func) (args_of (t.tree e)) (keywords_of (t.tree e)) value) world.now world.now step) }
     ensures safe { IfOk result (λ step. AllHold world.now (of_step of_eval_kept step)) }
 {
@@ -157,7 +157,7 @@ fn next_argument(
     requires called { AllHold world.now (of_called called) }
     requires values { Holds world.now (AreNodes values.items) }
     requires fits { length values.items ≤ length (arguments_at (slice_get world.now.forms e)) }
-    ensures goes { IfOk result (λ step. GoesOn (EvalKept.Arguments e called values) world.now world.now step) }
+    ensures goes { IfOk result (λ step. Goes (λ t. arguments_row (t.tree e) called values.items) world.now world.now step) }
     ensures safe { IfOk result (λ step. AllHold world.now (of_step of_eval_kept step)) }
 {
     let form = world.form(e);
@@ -180,7 +180,7 @@ fn next_argument(
 
 // Something is called with these arguments, and with no keywords.
 fn call_plainly(alloc: Global, called: Called, values: Args) -> Step<EvalKept>
-    ensures goes { (w : World) → Takes (λ t u. start (pass u (called_task called values.items [])) (end u)) w w result }
+    ensures goes { (w : World) → Goes (λ t u. start (pass u (called_task called values.items [])) (end u)) w w result }
     ensures safe { (w : World) → AllHold w (of_called called) → Holds w (AreNodes values.items) →
         AllHold w (of_step of_eval_kept result) }
 {
@@ -228,7 +228,7 @@ fn call_with(
     values: &[PyObjectRef],
 ) -> Result<Step<EvalKept>, OutOfMemory>
     requires { length values.now ≡ count + length names.now }
-    ensures goes { IfOk result (λ step. (w : World) → Takes (λ t u.
+    ensures goes { IfOk result (λ step. (w : World) → Goes (λ t u.
         given_say u (called_task called) count (map (spelled t) names.now) values.now) w w step) }
     ensures safe { IfOk result (λ step. (w : World) → AllHold w (of_called called) → Holds w (AreNames names.now) →
         Holds w (AreNodes values.now) → AllHold w (of_step of_eval_kept step)) }

@@ -4,7 +4,7 @@
 ghost use Rattle.proto_call.specs.Below.{[], length, map, slice_get, IfOk, OnOk, with_node, next_node, AText, ATuple, start, end, AllHold, Grows, Holds, IsName, IsNode, AreNames, AreNodes, of_each, of_binding, of_option, of_node_ref, Leaves, of_entries, of_keyed, Reading, Reads, bindings, plain, spelled, is_same_name, the_str, the_tuple};
 ghost use Rattle.std.specs.Prelude.{◌≡◌, ◌+◌, ◌∷◌};
 ghost use Rattle.proto_call.specs.EvalForms.Say.{class_by, class_say, class_within, keyed, metaclass, with_dict};
-ghost use Rattle.proto_call.specs.EvalForms.Rows.{Takes, of_eval_kept};
+ghost use Rattle.proto_call.specs.EvalForms.Rows.{Goes, of_eval_kept};
 
 use crate::eval_forms::EvalKept;
 use crate::eval_forms::keywords::{list_of, unrepeated, without};
@@ -31,7 +31,7 @@ pub(crate) fn class_step(
     requires values { Holds world.old (AreNodes values.now) }
     requires all { length values.now ≡ bases + (length keys.now + length names.now) }
     ensures goes { IfOk result (λ step.
-        Takes (λ t u.
+        Goes (λ t u.
         class_say u (t.text name.0) bases (map (spelled t) keys.now) (map (spelled t) names.now) values.now)
         world.old world.new step) }
     ensures safe { Leaves of_eval_kept world.old world.new result }
@@ -61,7 +61,7 @@ fn class_within(
     requires keywords { AllHold world.old (of_each of_binding keywords.now) }
     requires entries { AllHold world.old (of_each of_binding entries.now) }
     ensures goes { IfOk result (λ step.
-        Takes (λ t u. class_within u (t.text name.0) bases.now (bindings t keywords.now) (bindings t entries.now))
+        Goes (λ t u. class_within u (t.text name.0) bases.now (bindings t keywords.now) (bindings t entries.now))
         world.old world.new step) }
     ensures safe { Leaves of_eval_kept world.old world.new result }
 {
@@ -88,7 +88,7 @@ fn call_metaclass(
     requires keywords { AllHold world.old (of_each of_binding keywords.now) }
     requires entries { AllHold world.old (of_each of_binding entries.now) }
     ensures goes { IfOk result (λ step.
-        Takes (λ t u.
+        Goes (λ t u.
         start (class_by u (t.text name.0) bases.now (bindings t keywords.now) (bindings t entries.now)) (end u))
         world.old world.new step) }
     ensures safe { Leaves of_eval_kept world.old world.new result }

@@ -3,7 +3,7 @@
 ghost use Rattle.proto_call.specs.Below.{length, slice_get, Ok, IfOk, of_keyed, of_pairs, AllHold, Holds, IsExpression, of_ended, of_step, Leaves, entries_from};
 ghost use Rattle.std.specs.Prelude.{◌≡◌, ◌≤◌, ◌<◌};
 ghost use Rattle.proto_call.specs.EvalForms.Say.{make_dict};
-ghost use Rattle.proto_call.specs.EvalForms.Rows.{EndsRow, GoesOn, Resumes, of_eval_kept, pairs, pairs_at};
+ghost use Rattle.proto_call.specs.EvalForms.Rows.{EndsRow, Goes, Resumes, of_eval_kept, pairs, pairs_at, pairs_row};
 
 use crate::eval_forms::{EvalKept, object_of};
 use class_world::World;
@@ -25,7 +25,7 @@ pub(crate) fn next_key(
     requires dict { Holds world.old (IsExpression e) }
     requires found { AllHold world.old (of_pairs found.items) }
     requires fits { length found.items ≤ length (pairs_at (slice_get world.old.forms e)) }
-    ensures goes { IfOk result (λ step. GoesOn (EvalKept.Key e found) world.old world.new step) }
+    ensures goes { IfOk result (λ step. Goes (λ t. pairs_row (t.tree e) found.items) world.old world.new step) }
     ensures safe { Leaves of_eval_kept world.old world.new result }
 {
     match pair(world.form(e), found.len()) {

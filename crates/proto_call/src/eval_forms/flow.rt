@@ -3,7 +3,7 @@
 ghost use Rattle.std.specs.Prelude.{◌≡◌};
 ghost use Rattle.proto_call.specs.Below.{of_ended, of_step, Reading, AllHold, Holds, AreNodes, IsExpression, of_node_ref, of_option};
 ghost use Rattle.proto_call.specs.EvalForms.Say.{if_say, seq_say};
-ghost use Rattle.proto_call.specs.EvalForms.Rows.{EndsRow, Resumes, Takes, of_eval_kept};
+ghost use Rattle.proto_call.specs.EvalForms.Rows.{EndsRow, Goes, Resumes, of_eval_kept};
 
 use crate::eval_forms::EvalKept;
 use class_world::{Fixed, World};
@@ -11,7 +11,7 @@ use py_node::{Answer, Cause, EvalTask, ProtocolTask, PyObjectRef, Raised, Step, 
 
 // Whether the condition counts as true is asked.
 pub(crate) fn if_step(chosen: u64, other: u64, condition: Option<PyObjectRef>) -> Step<EvalKept>
-    ensures goes { (w : World) → Takes (λ t u. if_say u (t.tree chosen) (t.tree other) condition) w w result }
+    ensures goes { (w : World) → Goes (λ t u. if_say u (t.tree chosen) (t.tree other) condition) w w result }
     ensures safe { (w : World) → Holds w (IsExpression chosen) → Holds w (IsExpression other) →
         AllHold w (of_option of_node_ref condition) → AllHold w (of_step of_eval_kept result) }
 {

@@ -3,7 +3,7 @@
 ghost use Rattle.proto_call.specs.Below.{IfOk, AllHold, Holds, IsNode, AreNodes, of_step, Leaves, two_of};
 ghost use Rattle.std.specs.Prelude.{◌≡◌};
 ghost use Rattle.proto_call.specs.EvalForms.Words.{asked, callable_of, format_of, has_attr_of, is_of, one_of, op_say, task_for, type_of};
-ghost use Rattle.proto_call.specs.EvalForms.Rows.{Takes, of_eval_kept};
+ghost use Rattle.proto_call.specs.EvalForms.Rows.{Goes, of_eval_kept};
 
 use crate::eval_forms::bounds::{counted_step, del_slice_step, set_slice_step, slice_step};
 use crate::eval_forms::manner::{Manner, manner_of};
@@ -24,7 +24,7 @@ pub(crate) fn op_step(
     values: &[PyObjectRef],
 ) -> Result<Step<EvalKept>, OutOfMemory>
     requires { Holds world.old (AreNodes values.now) }
-    ensures goes { IfOk result (λ step. Takes (λ t u. op_say u word values.now) world.old world.new step) }
+    ensures goes { IfOk result (λ step. Goes (λ t u. op_say u word values.now) world.old world.new step) }
     ensures safe { Leaves of_eval_kept world.old world.new result }
 {
     match manner_of(word) {
@@ -59,7 +59,7 @@ pub(crate) fn op_step(
 // The word's task is asked, and this is made of its answer.
 fn ask_for(world: &World, word: Word, outcome: Outcome, values: &[PyObjectRef]) -> Step<EvalKept>
     requires { Holds world.now (AreNodes values.now) }
-    ensures goes { Takes (λ t u. asked u outcome (task_for word values.now)) world.now world.now result }
+    ensures goes { Goes (λ t u. asked u outcome (task_for word values.now)) world.now world.now result }
     ensures safe { AllHold world.now (of_step of_eval_kept result) }
 {
     match task_for(world, word, values) {
@@ -71,7 +71,7 @@ fn ask_for(world: &World, word: Word, outcome: Outcome, values: &[PyObjectRef]) 
 // Whether the two operands are the same object.
 fn is_step(world: &World, values: &[PyObjectRef]) -> Step<EvalKept>
     requires { Holds world.now (AreNodes values.now) }
-    ensures goes { Takes (λ t u. is_of u (two_of values.now)) world.now world.now result }
+    ensures goes { Goes (λ t u. is_of u (two_of values.now)) world.now world.now result }
     ensures safe { AllHold world.now (of_step of_eval_kept result) }
 {
     match two_of(values) {
@@ -83,7 +83,7 @@ fn is_step(world: &World, values: &[PyObjectRef]) -> Step<EvalKept>
 // The operand's class, as an object.
 fn type_step(world: &World, values: &[PyObjectRef]) -> Step<EvalKept>
     requires { Holds world.now (AreNodes values.now) }
-    ensures goes { Takes (λ t u. type_of u (one_of values.now)) world.now world.now result }
+    ensures goes { Goes (λ t u. type_of u (one_of values.now)) world.now world.now result }
     ensures safe { AllHold world.now (of_step of_eval_kept result) }
 {
     match one_of(values) {
@@ -95,7 +95,7 @@ fn type_step(world: &World, values: &[PyObjectRef]) -> Step<EvalKept>
 // Whether the operand's class says how it is called.
 fn callable_step(world: &World, values: &[PyObjectRef]) -> Step<EvalKept>
     requires { Holds world.now (AreNodes values.now) }
-    ensures goes { Takes (λ t u. callable_of u (one_of values.now)) world.now world.now result }
+    ensures goes { Goes (λ t u. callable_of u (one_of values.now)) world.now world.now result }
     ensures safe { AllHold world.now (of_step of_eval_kept result) }
 {
     match one_of(values) {
@@ -110,7 +110,7 @@ fn callable_step(world: &World, values: &[PyObjectRef]) -> Step<EvalKept>
 // An object as a text by a specification, which must be a text.
 fn format_step(world: &World, values: &[PyObjectRef]) -> Step<EvalKept>
     requires { Holds world.now (AreNodes values.now) }
-    ensures goes { Takes (λ t u. format_of u (two_of values.now)) world.now world.now result }
+    ensures goes { Goes (λ t u. format_of u (two_of values.now)) world.now world.now result }
     ensures safe { AllHold world.now (of_step of_eval_kept result) }
 {
     match two_of(values) {
@@ -128,7 +128,7 @@ fn format_step(world: &World, values: &[PyObjectRef]) -> Step<EvalKept>
 // Whether an object has an attribute of a name, which must be a text.
 fn has_attr_step(world: &mut World, values: &[PyObjectRef]) -> Result<Step<EvalKept>, OutOfMemory>
     requires { Holds world.old (AreNodes values.now) }
-    ensures goes { IfOk result (λ step. Takes (λ t u. has_attr_of u (two_of values.now)) world.old world.new step) }
+    ensures goes { IfOk result (λ step. Goes (λ t u. has_attr_of u (two_of values.now)) world.old world.new step) }
     ensures safe { Leaves of_eval_kept world.old world.new result }
 {
     match two_of(values) {

@@ -1,5 +1,5 @@
 -- What a text spells is what `parse` reads.
-use Rattle.proto_object.proofs.Below.{◌∙◌, Bool, true, false, cond, drop, [], Ok, refl, sym, ap, arith, ℤ, w128, FitsSigned, is_ascii_digit, list_all, all_ascii_digits, IsNumeral, digits_value, signed_digits_value, starts_with_minus, without_leading_sign, true≢false, numerals_by_value, tells_all_ascii_digits, IntLiteral, IntRange, Text, fault, fits, in_range, fits-false, is_negative, is_numeral, signed, spelled, without_sign}
+use Rattle.proto_object.proofs.Below.{◌∙◌, Bool, true, false, cond, drop, [], Ok, refl, sym, ap, arith, w128, FitsSigned, is_ascii_digit, list_all, all_ascii_digits, IsNumeral, digits_value, signed_digits_value, starts_with_minus, without_leading_sign, true≢false, numerals_by_value, tells_all_ascii_digits, IntLiteral, IntRange, Text, fault, in_range, fits-false, is_negative, is_numeral, signed, spelled, without_sign}
 use Rattle.std.proofs.Common.{◌≡◌, ◌&&◌, ◌∷◌}
 use Rattle.std.specs.Prelude.{◌==◌}
 

@@ -1,18 +1,14 @@
 -- What the contracts of the rows of iterations say.
-use Rattle.proto_object.specs.Below.{ℕ, zero, suc, Bool, true, false, List, [], Option, Some, None, Result, Ok, Raised as Fault, PyObjectRef, Answer, Value, Truth, Exhausted, ProtocolTask, Step, NotFound, PlainWorld, ProtocolJob, DoGetIter, DoNext, DoCollect, DoContains, DoCount, DoFind, Answered, Chose, Ended, Told, Row, value, fault, Pending, ref, World, Reading, protocol_job, Group, Claim, IsNode, AreNodes, says, each_equal, items_told}
+use Rattle.proto_object.specs.Below.{ℕ, Bool, false, List, [], Option, Some, None, Result, Ok, Raised as Fault, PyObjectRef, Answer, Value, Truth, Exhausted, ProtocolTask, Step, NotFound, PlainWorld, DoIsTrue, ToProtocol, Answered, Ended, Row, start, pass, end, fault, on_truth, on_value, truth_of, World, Reading, protocol_job, Group, Point, Claim, IsNode, AreNodes, says, each_equal, all_items, objects, turned}
 use Rattle.std.specs.Prelude.{◌≡◌, ◌^◌, ◌≤◌, ◌⊎◌, ◌∷◌}
-use Rattle.class_world.specs.Rows as rows
+use Rattle.row_kit.specs.Points as points
 use Rattle.proto_object.specs.declared.proto_iter.IterKept.{IterKept}
 use Rattle.proto_object.specs.declared.proto_iter.IterKept.TheVariants.{Pass, AfterIter, AfterNext, Beginning, Collecting, AfterNative, AfterContains, Begun, Next, Equal}
 use Rattle.proto_object.specs.declared.proto_iter.seek.Search.{Search}
 use Rattle.proto_object.specs.declared.proto_iter.seek.Search.TheVariants as search
 use Rattle.proto_object.specs.declared.proto_iter.seek.Seeking.{Seeking}
-use Rattle.proto_object.specs.ProtoIter.Iteration.{counted, one_more, until_found, until_true}
+use Rattle.proto_object.specs.ProtoIter.Iteration.{as_truth, counted, iterator_only, next_rest, one_more, until_found, until_true}
 use Rattle.proto_object.specs.ProtoIter.Say.{iter_job_say}
-
--- some object
-abbrev pub nil : PyObjectRef
-nil = ref 0
 
 -- how a search goes on at an item that is equal or is not, and how it ends at the last one
 abbrev pub turn_of : Search → ℕ → Bool → Result ℕ Ended
@@ -29,30 +25,9 @@ last_of search.Find n = fault NotFound
 abbrev pub seeking : PlainWorld → Search → PyObjectRef → PyObjectRef → ℕ → Row
 seeking w s it x n = each_equal w it x (turn_of s) (last_of s) n
 
-abbrev pub search_job : Search → PyObjectRef → ProtocolJob
-search_job search.Contains x = DoContains nil x
-search_job search.Count x = DoCount nil x
-search_job search.Find x = DoFind nil x
-
--- where a class says nothing of what its objects contain, that is a search
-abbrev pub way_told : Search → Told → Told
-way_told search.Contains more = Chose 2 ∷ more
-way_told search.Count more = more
-way_told search.Find more = more
-
--- so many items were equal, or were not
-abbrev pub rounds : Bool → ℕ → Told → Told
-rounds b zero more = more
-rounds b (suc n) more = Answered (value nil) ∷ (Answered (says b) ∷ rounds b n more)
-
--- the items that a search counts: those that are equal, or those that are not
-abbrev pub counts_equal : Search → Bool
-counts_equal search.Contains = false
-counts_equal search.Count = true
-counts_equal search.Find = false
-
-abbrev pub sought_told : Seeking → Told → Told
-sought_told s more = way_told s.search (Answered (value s.iterator) ∷ rounds (counts_equal s.search) s.number more)
+-- an item was asked whether it is equal
+abbrev pub equal_rest : PlainWorld → Seeking → Ended → Row
+equal_rest w s r = on_truth w r (λ b told. turned w (turn_of s.search s.number b) (λ n. seeking w s.search s.iterator s.needle n told))
 
 -- numbers of items with which a search goes on alike: they are one, or both are too great to be told
 abbrev pub CountsAlike : ℕ → ℕ → Type 0
@@ -73,18 +48,18 @@ abbrev pub IsNoTruth : Result Answer Fault → Type 0
 IsNoTruth (Ok (Truth b)) = ⊥
 IsNoTruth _ = Unit {0}
 
--- the row that goes on, at each answer, just as the row that the code keeps this for
-abbrev pub iter_stands : Reading → IterKept → Pending ProtocolJob
-iter_stands t Pass = record { task = DoContains nil nil; told = Chose 1 ∷ (Answered (value nil) ∷ []) }
-iter_stands t AfterIter = record { task = DoGetIter nil; told = [] }
-iter_stands t AfterNext = record { task = DoNext nil; told = [] }
-iter_stands t Beginning = record { task = DoCollect nil; told = [] }
-iter_stands t (Collecting it items) = record { task = DoCollect nil; told = Answered (value it) ∷ items_told items.items [] }
-iter_stands t AfterNative = record { task = DoContains nil nil; told = Chose 0 ∷ [] }
-iter_stands t AfterContains = record { task = DoContains nil nil; told = Chose 1 ∷ [] }
-iter_stands t (Begun s x) = record { task = search_job s x; told = way_told s [] }
-iter_stands t (Next s) = record { task = search_job s.search s.needle; told = sought_told s [] }
-iter_stands t (Equal s) = record { task = search_job s.search s.needle; told = sought_told s (Answered (value nil) ∷ []) }
+-- what is done with the answer where this is kept
+abbrev pub iter_stands : Reading → IterKept → Ended → Point
+iter_stands t Pass r w = end w r
+iter_stands t AfterIter r w = on_value w r (iterator_only w)
+iter_stands t AfterNext r w = next_rest w r
+iter_stands t Beginning r w = on_value w r (λ it. all_items w it [] (λ rs. end w (objects rs)))
+iter_stands t (Collecting it items) r w told = all_items w it items.items (λ rs. end w (objects rs)) (Answered r ∷ told)
+iter_stands t AfterNative r w = on_value w r (λ v. end w (as_truth (truth_of v) v))
+iter_stands t AfterContains r w = on_value w r (λ v. start (pass w (ToProtocol (DoIsTrue v))) (end w))
+iter_stands t (Begun s x) r w = on_value w r (λ it. seeking w s it x 0)
+iter_stands t (Next s) r w told = seeking w s.search s.iterator s.needle s.number (Answered r ∷ told)
+iter_stands t (Equal s) r w = equal_rest w s r
 
 -- what is said of what is kept
 abbrev pub of_seeking : Seeking → List Claim
@@ -97,12 +72,12 @@ of_iter_kept (Next s) = of_seeking s
 of_iter_kept (Equal s) = of_seeking s
 of_iter_kept _ = []
 
--- the group: its jobs, what they say, what goes on, and what is claimed of that
-abbrev pub iter_group : Group ProtocolTask ProtocolJob IterKept
-iter_group = record { job = λ t. protocol_job; say = iter_job_say; stands = iter_stands; claims = of_iter_kept }
+-- the group: the row of a task, and what is done with an answer
+abbrev pub iter_group : Group ProtocolTask IterKept
+iter_group = record { row = λ t task w. iter_job_say w (protocol_job task); stands = iter_stands }
 
 abbrev pub Begins : ProtocolTask → World → World → Step IterKept → Type 0
-Begins = rows.Begins iter_group
+Begins = points.Begins iter_group
 
 abbrev pub Resumes : IterKept → Result Answer Fault → World → World → Step IterKept → Type 0
-Resumes = rows.Resumes iter_group
+Resumes = points.Resumes iter_group

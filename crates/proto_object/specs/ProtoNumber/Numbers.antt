@@ -1,5 +1,5 @@
 -- What the rows say by which an object stands for a whole number.
-use Rattle.proto_object.specs.Below.{ℕ, zero, suc, ℤ, pos, neg_ℤ, Bool, false, cond, is_some, [], Option, Some, None, Result, Ok, Err, is_ascii_digit, list_all, digits_value, PyObjectRef, Raised as Fault, IndexReturn, IntLiteral, IntReturn, NotIndex, NotInt, TruncReturn, SlotEntry, Native, Wrapper, known_text, Text, Datum, AText, PlainWorld, DoSpecial, DoIndex, ToAttribute, ToProtocol, Ended, Said, Asks, Ends, Chose, class_at, datum_at, number_of, slot_at, native_task, special_at, Row, start, fork, ask, pass, end, value, fault, on_value, in_range, int_made, as_int, is_int}
+use Rattle.proto_object.specs.Below.{ℕ, zero, suc, ℤ, pos, neg_ℤ, Bool, false, cond, is_some, [], Option, Some, None, Result, Err, is_ascii_digit, list_all, digits_value, PyObjectRef, Raised as Fault, IndexReturn, IntLiteral, IntReturn, NotIndex, NotInt, TruncReturn, SlotEntry, Native, Wrapper, known_text, Text, Datum, AText, PlainWorld, DoSpecial, DoIndex, ToAttribute, ToProtocol, Ended, Said, Asks, Ends, Chose, class_at, datum_at, number_of, slot_at, native_task, special_at, Row, start, fork, ask, pass, end, value, fault, on_value, in_range, int_made, as_int, is_int}
 use Rattle.std.specs.Prelude.{◌||◌, ◌==◌, ◌∷◌}
 use Rattle.py_node.specs.declared.entry.SlotId.TheVariants as slot
 use Rattle.py_node.specs.declared.known.Known.TheVariants as known

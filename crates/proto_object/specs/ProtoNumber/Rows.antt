@@ -1,48 +1,43 @@
 -- What the contracts of the rows of numbers, truth values and lengths say.
-use Rattle.proto_object.specs.Below.{ℤ, List, [], Result, Option, None, Err, option_map, Raised as Fault, TypeError, NoLength, PyObjectRef, Answer, ProtocolTask, Step, PlainWorld, ProtocolJob, DoIsTrue, DoIndex, DoWhole, DoLength, DoHint, Answered, Chose, Said, Ended, ref, value, none, Pending, World, Reading, protocol_job, Group, Claim, IsNode}
+use Rattle.proto_object.specs.Below.{List, [], Result, Raised as Fault, IndexReturn, Answer, ProtocolTask, Step, PlainWorld, DoCall, ToCall, Said, Ended, ask, end, fault, on_value, World, Reading, protocol_job, Group, Point, Claim, IsNode}
 use Rattle.std.specs.Prelude.{◌∷◌}
-use Rattle.class_world.specs.Rows as rows
+use Rattle.row_kit.specs.Points as points
 use Rattle.proto_object.specs.declared.proto_number.NumberKept.{NumberKept}
 use Rattle.proto_object.specs.declared.proto_number.NumberKept.TheVariants.{Pass, AfterBool, AfterLength, AfterIndex, AfterInt, AfterTruncate, AfterIndexOf, AfterLen, Measured, Expected, Called}
+use Rattle.proto_object.specs.ProtoNumber.Lengths.{expected_given, hint_rest, length_rest}
+use Rattle.proto_object.specs.ProtoNumber.Numbers.{number_given, truncated, whole_rest}
 use Rattle.proto_object.specs.ProtoNumber.Say.{number_job_say}
+use Rattle.proto_object.specs.ProtoNumber.Truth.{truth_rest}
 
--- a fault of an object that has no length
-abbrev pub has_no_length : Ended
-has_no_length = Err (record { kind = TypeError; cause = NoLength })
-
--- the row that goes on, at each answer, just as the row that the code keeps this for
-abbrev pub number_stands : Reading → NumberKept → Pending ProtocolJob
-number_stands t Pass = record { task = DoLength (ref 0); told = Chose 0 ∷ [] }
-number_stands t AfterBool = record { task = DoIsTrue (ref 0); told = Chose 0 ∷ [] }
-number_stands t AfterLength = record { task = DoIsTrue (ref 0); told = Chose 1 ∷ [] }
-number_stands t AfterIndex = record { task = DoIndex (ref 0); told = [] }
-number_stands t AfterInt = record { task = DoWhole (ref 0); told = Chose 0 ∷ [] }
-number_stands t AfterTruncate = record { task = DoWhole (ref 0); told = Chose 2 ∷ [] }
-number_stands t AfterIndexOf = record { task = DoWhole (ref 0); told = Chose 2 ∷ (Answered (value none) ∷ []) }
-number_stands t AfterLen = record { task = DoLength (ref 0); told = Chose 1 ∷ [] }
-number_stands t (Measured o d) = record { task = DoHint o d; told = [] }
-number_stands t (Expected d) = record { task = DoHint (ref 0) d; told = Answered has_no_length ∷ [] }
-number_stands t (Called d) = record { task = DoHint (ref 0) d; told = Answered has_no_length ∷ (Answered (value none) ∷ []) }
+-- what is done with the answer where this is kept
+abbrev pub number_stands : Reading → NumberKept → Ended → Point
+number_stands t Pass r w = end w r
+number_stands t AfterBool r w = truth_rest w 0 r
+number_stands t AfterLength r w = truth_rest w 1 r
+number_stands t AfterIndex r w = number_given w (fault IndexReturn) r
+number_stands t AfterInt r w = whole_rest w 0 r
+number_stands t AfterTruncate r w = whole_rest w 2 r
+number_stands t AfterIndexOf r w = truncated w r
+number_stands t AfterLen r w = length_rest w 1 r
+number_stands t (Measured o d) r w = hint_rest w o d r
+number_stands t (Expected d) r w = on_value w r (λ b. ask w (ToCall (DoCall b [] [])) (expected_given w d))
+number_stands t (Called d) r w = expected_given w d r
 
 -- what is said of what is kept
 abbrev pub of_number_kept : NumberKept → List Claim
 of_number_kept (Measured o d) = IsNode o ∷ []
 of_number_kept _ = []
 
--- the group: its jobs, what they say, what goes on, and what is claimed of that
-abbrev pub number_group : Group ProtocolTask ProtocolJob NumberKept
-number_group = record { job = λ t. protocol_job; say = number_job_say; stands = number_stands; claims = of_number_kept }
+-- the group: the row of a task, and what is done with an answer
+abbrev pub number_group : Group ProtocolTask NumberKept
+number_group = record { row = λ t task w. number_job_say w (protocol_job task); stands = number_stands }
 
 abbrev pub Begins : ProtocolTask → World → World → Step NumberKept → Type 0
-Begins = rows.Begins number_group
+Begins = points.Begins number_group
 
 abbrev pub Resumes : NumberKept → Result Answer Fault → World → World → Step NumberKept → Type 0
-Resumes = rows.Resumes number_group
+Resumes = points.Resumes number_group
 
 -- the first step of a task, which is said to be this
 abbrev pub Starts : ProtocolTask → (Reading → PlainWorld → Said) → World → World → Step NumberKept → Type 0
-Starts = rows.Starts number_group
-
--- the step at an answer, which is said to be this
-abbrev pub Continues : NumberKept → Result Answer Fault → (Reading → PlainWorld → Said) → World → World → Step NumberKept → Type 0
-Continues = rows.Continues number_group
+Starts = points.Starts number_group

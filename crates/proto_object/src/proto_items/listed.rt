@@ -4,7 +4,8 @@
 ghost use Rattle.proto_object.specs.Below.{IfErr, IfOk, Ok, of_ended, of_step, Leaves, AllHold, AreNodes, Holds, IsNode};
 ghost use Rattle.std.specs.Prelude.{◌≡◌};
 ghost use Rattle.py_node.specs.declared.protocol.ProtocolTask.TheVariants as protocol;
-ghost use Rattle.proto_object.specs.ProtoItems.Rows.{IsNoItem, Resumes, item_answer, of_items_kept};
+ghost use Rattle.proto_object.specs.ProtoIter.Rows.{IsNoItem};
+ghost use Rattle.proto_object.specs.ProtoItems.Rows.{Resumes, item_answer, of_items_kept};
 
 use crate::proto_items::ItemsKept;
 use class_world::World;

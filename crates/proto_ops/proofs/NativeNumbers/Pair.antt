@@ -1,5 +1,5 @@
 -- A quotient and what it leaves, as a pair that is made.
-use Rattle.proto_ops.proofs.Below.{[], Ok, sym, ap, ◌∙◌, ℤ, PyObjectRef, Value, ANumber, ATuple, PlainWorld, Said, Ends, with_node, next_node, value, World, Reading, Reads, plain, EndsAs, quotient, remainder, divided, divided_by, pair_made}
+use Rattle.proto_ops.proofs.Below.{[], Ok, sym, ap, ◌∙◌, ℤ, PyObjectRef, Value, ANumber, ATuple, Ends, with_node, next_node, value, World, Reading, Reads, plain, EndsAs, quotient, remainder, divided, divided_by, pair_made}
 use Rattle.std.proofs.Common.{◌≡◌, ◌∷◌}
 
 abbrev Made : World → World → ℤ → PyObjectRef → Type 0

@@ -1,27 +1,23 @@
 -- What the contracts of the rows of comparisons say.
-use Rattle.proto_ops.specs.Below.{ℕ, Bool, false, cond, List, [], Result, Ok, Raised as Fault, PyObjectRef, CompareTask, Answer, Eq, Step, CompareJob, DoCompare, DoRichBool, DoBoolEq, DoSeqLt, AsTruth, Answered, Chose, value, not_implemented, Pending, ref, World, Reading, compare_job, Group, Claim, IsNode}
+use Rattle.proto_ops.specs.Below.{Bool, true, cond, List, [], Result, Raised as Fault, PyObjectRef, PyComparisonOp, CompareTask, Answer, Step, PlainWorld, DoBoolEq, ToCompare, Ended, Row, ask, end, or_else, on_truth, on_value, World, Reading, compare_job, Group, Point, Claim, IsNode}
 use Rattle.std.specs.Prelude.{◌∷◌}
-use Rattle.class_world.specs.Rows as rows
+use Rattle.row_kit.specs.Points as points
 use Rattle.proto_ops.specs.declared.proto_compare.CompareKept.{CompareKept}
 use Rattle.proto_ops.specs.declared.proto_compare.CompareKept.TheVariants.{Pass, First, Second, Counts, Ordered, Equal}
-use Rattle.proto_ops.specs.ProtoCompare.Say.{compare_job_say}
+use Rattle.proto_ops.specs.ProtoCompare.Say.{by_identity, compare_job_say, counts, decided, left_asked, right_asked, truth_of, unless_equal}
 
--- some object
-abbrev pub nil : PyObjectRef
-nil = ref 0
+-- the operand that was not asked first is asked
+abbrev pub other_asked : PlainWorld → Bool → PyObjectRef → PyObjectRef → PyComparisonOp → Row
+other_asked w right_first a b o = cond right_first (left_asked w a b o) (right_asked w a b o) (λ s. or_else w s (by_identity w a b o))
 
--- the way of a comparison: the left operand is asked first, or the right one
-abbrev pub way : Bool → ℕ
-way right_first = cond right_first 1 0
-
--- the row that goes on, at each answer, just as the row that the code keeps this for
-abbrev pub compare_stands : Reading → CompareKept → Pending CompareJob
-compare_stands t Pass = record { task = DoBoolEq nil nil; told = [] }
-compare_stands t (First right_first a b o) = record { task = DoCompare a b o; told = Chose (way right_first) ∷ [] }
-compare_stands t (Second a b o) = record { task = DoCompare a b o; told = Chose 0 ∷ Answered (value not_implemented) ∷ [] }
-compare_stands t Counts = record { task = DoRichBool nil nil Eq; told = [] }
-compare_stands t (Ordered a b) = record { task = DoSeqLt a b; told = [] }
-compare_stands t Equal = record { task = DoSeqLt nil nil; told = Answered (Ok (AsTruth false)) ∷ [] }
+-- what is done with the answer where this is kept
+abbrev pub compare_stands : Reading → CompareKept → Ended → Point
+compare_stands t Pass r w = end w r
+compare_stands t (First right_first a b o) r w = or_else w r (other_asked w right_first a b o)
+compare_stands t (Second a b o) r w = or_else w r (by_identity w a b o)
+compare_stands t Counts r w = on_value w r (λ x. counts w (truth_of x) x)
+compare_stands t (Ordered a b) r w = on_truth w r (λ holds. cond holds (decided w true) (ask w (ToCompare (DoBoolEq a b)) (unless_equal w)))
+compare_stands t Equal r w = unless_equal w r
 
 -- what is said of what is kept
 abbrev pub of_compare_kept : CompareKept → List Claim
@@ -30,12 +26,12 @@ of_compare_kept (Second a b o) = IsNode a ∷ IsNode b ∷ []
 of_compare_kept (Ordered a b) = IsNode a ∷ IsNode b ∷ []
 of_compare_kept _ = []
 
--- the group: its jobs, what they say, what goes on, and what is claimed of that
-abbrev pub compare_group : Group CompareTask CompareJob CompareKept
-compare_group = record { job = λ t. compare_job; say = compare_job_say; stands = compare_stands; claims = of_compare_kept }
+-- the group: the row of a task, and what is done with an answer
+abbrev pub compare_group : Group CompareTask CompareKept
+compare_group = record { row = λ t task w. compare_job_say w (compare_job task); stands = compare_stands }
 
 abbrev pub Begins : CompareTask → World → World → Step CompareKept → Type 0
-Begins = rows.Begins compare_group
+Begins = points.Begins compare_group
 
 abbrev pub Resumes : CompareKept → Result Answer Fault → World → World → Step CompareKept → Type 0
-Resumes = rows.Resumes compare_group
+Resumes = points.Resumes compare_group

@@ -89,10 +89,12 @@ decided w b = end w (Ok (AsMaybe (Some (truth b))))
 abbrev pub undecided : PlainWorld → Row
 undecided w = end w (Ok (AsMaybe None))
 
+abbrev pub unless_equal : PlainWorld → Ended → Row
+unless_equal w r = on_truth w r (λ equal. cond equal (undecided w) (decided w false))
+
 abbrev pub seq_say : PlainWorld → PyComparisonOp → PyObjectRef → PyObjectRef → Row
 seq_say w o a b =
-    ask w (ToCompare (DoRichBool a b o)) (λ r. on_truth w r (λ holds. cond holds (decided w true)
-    (ask w (ToCompare (DoBoolEq a b)) (λ s. on_truth w s (λ equal. cond equal (undecided w) (decided w false))))))
+    ask w (ToCompare (DoRichBool a b o)) (λ r. on_truth w r (λ holds. cond holds (decided w true) (ask w (ToCompare (DoBoolEq a b)) (unless_equal w))))
 
 unfoldable pub compare_job_say : PlainWorld → CompareJob → Row
 compare_job_say w (DoCompare a b o) told = compare_say w a b o told

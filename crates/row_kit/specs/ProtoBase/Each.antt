@@ -1,5 +1,5 @@
 -- Rows that go over items one after another, and what rows do with answers that are no objects.
-use Rattle.row_kit.specs.Below.{ℕ, ℤ, Bool, true, false, cond, nat_le, length, List, [], Result, Ok, Err, PyObjectRef, TooLong, PlainWorld, DoBoolEq, DoNext, PlainTask, ToCompare, ToProtocol, AsValue, AsNumber, AsTruth, AsObjects, AsExhausted, Ended, Answered, Told, Said, Ends, Row, ask, pass, end, value, fault, on_value, on_truth, on_number, most_items}
+use Rattle.row_kit.specs.Below.{ℕ, ℤ, Bool, true, false, cond, nat_le, length, List, [], Result, Ok, Err, PyObjectRef, TooLong, PlainWorld, DoBoolEq, DoNext, PlainTask, ToCompare, ToProtocol, AsValue, AsNumber, AsTruth, AsObjects, AsExhausted, Ended, Answered, Said, Ends, Row, ask, pass, end, fault, on_value, on_truth, on_number, most_items}
 use Rattle.std.specs.Prelude.{◌∷◌, ◌++◌}
 
 -- a truth value, a number or a list of objects, as the answer of a row
@@ -42,11 +42,6 @@ all_items w it rs go (Answered (Ok (AsValue v)) ∷ more) = all_items w it (rs +
 all_items w it rs go (Answered (Ok AsExhausted) ∷ more) = go rs more
 all_items w it rs go (Answered r ∷ more) = Ends w r
 all_items w it rs go _ = cond (nat_le (length rs) most_items) (pass w (ToProtocol (DoNext it))) (Ends w (fault TooLong))
-
--- some items, as a row is told them
-abbrev pub items_told : List PyObjectRef → Told → Told
-items_told [] more = more
-items_told (v ∷ vs) more = Answered (value v) ∷ items_told vs more
 
 -- the number that a search goes on with, or how it ends
 abbrev pub turned : PlainWorld → Result ℕ Ended → (ℕ → Said) → Said

@@ -1,25 +1,19 @@
 -- What the contracts of natives say.
-use Rattle.vm_eval.specs.Below.{List, [], Result, PyObjectRef, PyStrInterned, Raised as Fault, NativeEntry, NewWrapper, Answer, Step, Ask, End, PlainTask, ToNative, Pending, fresh, given, World, Reading, bindings, ended_of, Goes, Claim, asking_stands, of_native_kept, item_stands, of_item_kept, parts_stands, of_parts_kept, compared_stands, of_compared_kept, repeat_stands, of_repeat_kept, detail_stands, of_detail_kept}
+use Rattle.vm_eval.specs.Below.{List, Result, PyObjectRef, PyStrInterned, Raised as Fault, NativeEntry, Answer, Step, Ended, World, Reading, bindings, Claim, asking_stands, of_native_kept, item_stands, of_item_kept, parts_stands, of_parts_kept, compared_stands, of_compared_kept, repeat_stands, of_repeat_kept, detail_stands, of_detail_kept}
+use Rattle.row_kit.specs.Points as points
+use Rattle.row_kit.specs.Points.{Group, Point, among}
 use Rattle.vm_eval.specs.declared.natives.NativesKept.{NativesKept}
 use Rattle.vm_eval.specs.declared.natives.NativesKept.TheVariants.{ForItems, ForParts, ForComparisons, ForRepeats, ForDetails, ForCalls}
 use Rattle.vm_eval.specs.OfNatives.Say.{NativeJob, native_job_say}
 
--- a task that is a native, as a job
-abbrev pub job_of : PlainTask → NativeJob
-job_of (ToNative n args kw) = record { entry = n; args = args; kw = kw }
-job_of _ = record { entry = NewWrapper; args = []; kw = [] }
-
-abbrev pub as_job : Pending PlainTask → Pending NativeJob
-as_job p = record { task = job_of p.task; told = p.told }
-
--- the row that goes on, at each answer, just as the row that the code keeps this for
-abbrev pub natives_stands : Reading → NativesKept → Pending NativeJob
-natives_stands t (ForItems kept) = as_job (item_stands t kept)
-natives_stands t (ForParts kept) = as_job (parts_stands t kept)
-natives_stands t (ForComparisons kept) = as_job (compared_stands t kept)
-natives_stands t (ForRepeats kept) = as_job (repeat_stands t kept)
-natives_stands t (ForDetails kept) = as_job (detail_stands t kept)
-natives_stands t (ForCalls kept) = as_job (asking_stands t kept)
+-- what is done with the answer where this is kept
+abbrev pub natives_stands : Reading → NativesKept → Ended → Point
+natives_stands t (ForItems kept) = item_stands t kept
+natives_stands t (ForParts kept) = parts_stands t kept
+natives_stands t (ForComparisons kept) = compared_stands t kept
+natives_stands t (ForRepeats kept) = repeat_stands t kept
+natives_stands t (ForDetails kept) = detail_stands t kept
+natives_stands t (ForCalls kept) = asking_stands t kept
 
 -- what is said of what is kept
 abbrev pub of_natives_kept : NativesKept → List Claim
@@ -32,17 +26,20 @@ of_natives_kept (ForCalls kept) = of_native_kept kept
 
 -- what is kept, among all that natives keep
 abbrev pub kept_among : {K : Type 0} → (K → NativesKept) → Step K → Step NativesKept
-kept_among for (Ask task kept) = Ask task (for kept)
-kept_among for (End r) = End r
+kept_among for step = among for step
 
 -- a native with its arguments and keywords
 abbrev pub native_job : NativeEntry → List PyObjectRef → List (PyStrInterned × PyObjectRef) → Reading → NativeJob
 native_job n args kw t = record { entry = n; args = args; kw = bindings t kw }
 
+-- the group: the row of a native, and what is done with an answer
+abbrev pub natives_group : Group (Reading → NativeJob) NativesKept
+natives_group = record { row = λ t job w. native_job_say w (job t); stands = natives_stands }
+
 -- the first step of a native
 abbrev pub Begins : NativeEntry → List PyObjectRef → List (PyStrInterned × PyObjectRef) → World → World → Step NativesKept → Type 0
-Begins n args kw = Goes native_job_say natives_stands (λ t. fresh (native_job n args kw t))
+Begins n args kw = points.Begins natives_group (native_job n args kw)
 
 -- the step at an answer
 abbrev pub Resumes : NativesKept → Result Answer Fault → World → World → Step NativesKept → Type 0
-Resumes kept r = Goes native_job_say natives_stands (λ t. given (natives_stands t kept) (ended_of r))
+Resumes = points.Resumes natives_group

@@ -1,4 +1,4 @@
-use Rattle.proto_call.proofs.Lemmas.{[], ap, length, arith, length-append, ltb-true, Holds, more-nodes, operands, operands_at}
+use Rattle.proto_call.proofs.Lemmas.{[], ap, length, arith, length-append, ltb-true, Holds, more-nodes, one-more, operands, operands_at}
 use Rattle.std.proofs.Common.{◌∷◌}
 use Rattle.proto_call.proofs.eval_forms.one_more.Goals as goal
 
@@ -13,3 +13,7 @@ next_operand-requires-clause-fits c =
     let within = ltb-true (length c.args.values.items) (length (operands h.0)) h.2 in
     let long = ap (λ o. length (operands_at o)) h.1 in
     rw c.in_ok-values.ensures (omega (arith, l, within, long))
+
+pub returns-in_ok-values-clause-goes : goal.returns-in_ok-values-clause-goes
+returns-in_ok-values-clause-goes c =
+    one-more c.args.world.now c.next_operand.new.world c.args.e c.args.values c.in_ok-values.values c.args.value c.next_operand.result c.in_ok-values.ensures c.next_operand.ensures.goes

@@ -1,4 +1,4 @@
-use Rattle.proto_call.proofs.Lemmas.{IfOk, length, map, ap, sym, subst, ◌∙◌, PlainWorld, Reading, spelled, ok-map, one_of, op_say, attr_say, set_attr_say, del_attr_say, called_say, if_say, seq_say, raise_say, class_say, two_of, IsOwn, Takes, Continues, operands_at, args_of, keywords_of, own-closes, own-takes, own-takes-read, says-attr, says-set, says-call, says-raise, attr-name, call-func, says-op, says-del, says-if, says-seq, del-name, if-branches, says-class, class-long, class-names, set-name, one-holds, own-func, own-tuple, own-list, no-pairs, own-dict, grows-itself}
+use Rattle.proto_call.proofs.Lemmas.{IfOk, length, map, ap, sym, subst, ◌∙◌, PlainWorld, Reading, spelled, ok-map, one_of, op_say, attr_say, set_attr_say, del_attr_say, called_say, if_say, seq_say, raise_say, class_say, two_of, IsOwn, Goes, Continues, operands_at, args_of, keywords_of, own-closes, own-takes, own-takes-read, says-attr, says-set, says-call, says-raise, attr-name, call-func, says-op, says-del, says-if, says-seq, del-name, if-branches, says-class, class-long, class-names, set-name, one-holds, own-func, own-tuple, own-list, no-pairs, own-dict, grows-itself}
 use Rattle.proto_call.proofs.eval_forms.own_step.Goals as goal
 
 pub returns-in-SetAttr-clause-goes : goal.returns-in-SetAttr-clause-goes
@@ -61,7 +61,7 @@ returns-in-Call-clause-goes c =
     let is = rw c.deref-in-Call.ensures.value at c.one_of-in-Call.ensures in
     let goes = rw is at c.call_step.ensures.goes in
     let row = λ (t : Reading) (u : PlainWorld). called_say u (t.tree g) (args_of (t.tree e)) (keywords_of (t.tree e)) (one_of vs) in
-    ok-map (λ step. Takes row w w step) (λ step. Continues e vs w w step) c.call_step.result (λ step k. own-takes-read w w e f vs row step c.form.ensures.stored long (λ t r u more.
+    ok-map (λ step. Goes row w w step) (λ step. Continues e vs w w step) c.call_step.result (λ step k. own-takes-read w w e f vs row step c.form.ensures.stored long (λ t r u more.
     says-call g vs f own t u more
     ∙ ap (λ x. called_say u (t.tree g) (args_of x) (keywords_of x) (one_of vs) more) (sym (r.trees e f c.form.ensures.stored))) k) goes
 
@@ -93,8 +93,8 @@ returns-in-Op-clause-goes c =
     let own = subst (λ o. IsOwn o f) c.in-Op.is c.in_ok-constant.ensures in
     let long = ap (λ o. length (operands_at o)) (sym c.form.ensures.stored) ∙ c.requires.all in
     let row = λ (t : Reading) (u : PlainWorld). op_say u word vs in
-    let goes : IfOk c.op_step.result (λ step. Takes row w new step) = rw (← c.deref-in-Op.ensures.value) c.op_step.ensures.goes in
-    ok-map (λ step. Takes row w new step) (λ step. Continues c.args.e vs w new step) c.op_step.result (λ step k. own-takes w new c.args.e f vs row step c.form.ensures.stored long (says-op word vs f own) k) goes
+    let goes : IfOk c.op_step.result (λ step. Goes row w new step) = rw (← c.deref-in-Op.ensures.value) c.op_step.ensures.goes in
+    ok-map (λ step. Goes row w new step) (λ step. Continues c.args.e vs w new step) c.op_step.result (λ step k. own-takes w new c.args.e f vs row step c.form.ensures.stored long (says-op word vs f own) k) goes
 
 pub returns-in-Tuple-clause-goes : goal.returns-in-Tuple-clause-goes
 returns-in-Tuple-clause-goes c =
@@ -219,9 +219,9 @@ returns-in-Class-clause-goes c =
     let own = subst (λ o. IsOwn o f) c.in-Class.is c.in_ok-constant.ensures in
     let long = ap (λ o. length (operands_at o)) (sym c.form.ensures.stored) ∙ c.requires.all in
     let row = λ (t : Reading) (u : PlainWorld). class_say u (t.text x.0) n (map (spelled t) ks.items) (map (spelled t) xs.items) vs in
-    let goes : IfOk c.class_step.result (λ step. Takes row w new step) =
+    let goes : IfOk c.class_step.result (λ step. Goes row w new step) =
     rw (← c.deref-in-Class.ensures.value, ← c.deref-in-Class-2.ensures.value, ← c.deref-in-Class-3.ensures.value) c.class_step.ensures.goes in
-    ok-map (λ step. Takes row w new step) (λ step. Continues c.args.e vs w new step) c.class_step.result (λ step k. own-takes w new c.args.e f vs row step c.form.ensures.stored long (says-class x n ks xs vs f own) k) goes
+    ok-map (λ step. Goes row w new step) (λ step. Continues c.args.e vs w new step) c.class_step.result (λ step k. own-takes w new c.args.e f vs row step c.form.ensures.stored long (says-class x n ks xs vs f own) k) goes
 
 pub bind_step-requires-clause-value : goal.bind_step-requires-clause-value
 bind_step-requires-clause-value c =

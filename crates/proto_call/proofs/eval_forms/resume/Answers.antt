@@ -8,4 +8,4 @@ returns-in-Err-clause-goes c =
     let held = subst (λ k. AllHold w (of_eval_kept k)) c.in-Operands.is c.requires.kept in
     subst (λ k. Resumes k s w w (End c.in-Err.other)) (sym c.in-Operands.is) (
     subst (λ r. Resumes (Operands c.in-Operands.e c.in-Operands.values) s w w (End r)) (sym c.in-Err.ensures.same)
-    (ends-with w c.in-Operands.e c.in-Operands.values.items s c.in-Err.ensures.other held.1.0))
+    (ends-with w c.in-Operands.e c.in-Operands.values s c.in-Err.ensures.other held.1.0))

@@ -1,22 +1,22 @@
-use Rattle.proto_object.proofs.Lemmas.{ap, ◌∙◌, [], Instancecheck, known_text, DoSpecial, ToAttribute, plain, way_of, way_number, instance-at-once, instance-called, instance-each, instance-plainly}
+use Rattle.proto_object.proofs.Lemmas.{ap, ◌∙◌, [], Instancecheck, known_text, DoSpecial, ToAttribute, plain, way_of, way_number, instance, instance-is, at-once, called, each, plainly}
 use Rattle.proto_object.proofs.ways.begin_is_instance.Goals as goal
 
 pub returns-in-AtOnce-clause-goes : goal.returns-in-AtOnce-clause-goes
 returns-in-AtOnce-clause-goes c =
     let a = c.args in
-    rw c.says.ensures (instance-at-once a.world.now a.o a.c (λ t r. ap (λ b. way_of (plain t a.world.now) b Instancecheck a.c) (c.is_of-at_once.ensures t) ∙ c.way_of.ensures t r ∙ ap way_number c.in-AtOnce.is))
+    rw c.says.ensures (at-once (instance a.o a.c) (instance-is a.o a.c) a.world.now (λ t r. ap (λ b. way_of (plain t a.world.now) b Instancecheck a.c) (c.is_of-at_once.ensures t) ∙ c.way_of.ensures t r ∙ ap way_number c.in-AtOnce.is))
 
 pub returns-in-Plainly-clause-goes : goal.returns-in-Plainly-clause-goes
 returns-in-Plainly-clause-goes c =
     let a = c.args in
-    instance-plainly a.world.now a.o a.c (λ t r. ap (λ b. way_of (plain t a.world.now) b Instancecheck a.c) (c.is_of-at_once.ensures t) ∙ c.way_of.ensures t r ∙ ap way_number c.in-Plainly.is)
+    plainly (instance a.o a.c) (instance-is a.o a.c) a.world.now (λ t r. ap (λ b. way_of (plain t a.world.now) b Instancecheck a.c) (c.is_of-at_once.ensures t) ∙ c.way_of.ensures t r ∙ ap way_number c.in-Plainly.is)
 
 pub returns-in_ok-items-in-ByEach-clause-goes : goal.returns-in_ok-items-in-ByEach-clause-goes
 returns-in_ok-items-in-ByEach-clause-goes c =
     let a = c.args in
-    rw c.take_turn.ensures.step (instance-each a.world.now a.o a.c c.in_ok-items-in-ByEach.items (λ t r. ap (λ b. way_of (plain t a.world.now) b Instancecheck a.c) (c.is_of-at_once.ensures t) ∙ c.way_of.ensures t r ∙ ap way_number c.in-ByEach.is) c.in_ok-items-in-ByEach.ensures.items)
+    rw c.take_turn.ensures.step (each (instance a.o a.c) (instance-is a.o a.c) a.world.now c.in_ok-items-in-ByEach.items (λ t r. ap (λ b. way_of (plain t a.world.now) b Instancecheck a.c) (c.is_of-at_once.ensures t) ∙ c.way_of.ensures t r ∙ ap way_number c.in-ByEach.is) c.in_ok-items-in-ByEach.ensures.items)
 
 pub returns-in_ok-args-in-Called-clause-goes : goal.returns-in_ok-args-in-Called-clause-goes
 returns-in_ok-args-in-Called-clause-goes c =
     let a = c.args in
-    instance-called a.world.now a.o a.c c.special-task.result (λ t r. ap (λ b. way_of (plain t a.world.now) b Instancecheck a.c) (c.is_of-at_once.ensures t) ∙ c.way_of.ensures t r ∙ ap way_number c.in-Called.is) (λ t r. c.special-task.ensures.task t r ∙ ap (λ rs. ToAttribute (DoSpecial a.c (known_text Instancecheck) rs [])) c.in_ok-args-in-Called.ensures.items)
+    called (instance a.o a.c) (instance-is a.o a.c) a.world.now c.special-task.result (λ t r. ap (λ b. way_of (plain t a.world.now) b Instancecheck a.c) (c.is_of-at_once.ensures t) ∙ c.way_of.ensures t r ∙ ap way_number c.in-Called.is) (λ t r. c.special-task.ensures.task t r ∙ ap (λ rs. ToAttribute (DoSpecial a.c (known_text Instancecheck) rs [])) c.in_ok-args-in-Called.ensures.items)

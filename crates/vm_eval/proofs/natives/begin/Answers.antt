@@ -1,43 +1,42 @@
-use Rattle.vm_eval.proofs.Lemmas.{sym, ◌∙◌, item_job_say, item_stands, parts_job_say, parts_stands, compared_job_say, compared_stands, repeat_job_say, repeat_stands, detail_job_say, detail_stands, asking_job_say, asking_stands, ForParts, ForComparisons, ForRepeats, ForDetails, ForCalls, family-begins, plain-begins, sorted_ends, items-family, parts-family, comparisons-family, repeats-family, details-family, calls-family}
-use Rattle.vm_eval.specs.declared.natives.family.Family.TheVariants as family
-use Rattle.vm_eval.specs.declared.natives.NativesKept.TheVariants.{ForItems}
+use Rattle.vm_eval.proofs.Lemmas.{◌∙◌, sym, family-begins, plain-begins, sorted_ends, items-family, parts-family, comparisons-family, repeats-family, details-family, calls-family}
+use Rattle.py_node.specs.declared.task.Task.TheVariants as task
 use Rattle.vm_eval.proofs.natives.begin.Goals as goal
 
 pub returns-in_ok-step-in-Items-clause-goes : goal.returns-in_ok-step-in-Items-clause-goes
 returns-in_ok-step-in-Items-clause-goes c =
     let a = c.args in
     let step = c.in_ok-step-in-Items in
-    family-begins family.Items item_job_say item_stands ForItems items-family a.entry a.args.items a.kw.items _ _ step.step c.of_items.result (sym c.family_of.ensures ∙ c.in-Items.is) c.of_items.ensures.step step.ensures.goes
+    family-begins items-family a.entry a.args a.kw _ _ step.step c.of_items.result (sym c.family_of.ensures ∙ c.in-Items.is) c.of_items.ensures.step step.ensures.goes
 
 pub returns-in_ok-step-in-Parts-clause-goes : goal.returns-in_ok-step-in-Parts-clause-goes
 returns-in_ok-step-in-Parts-clause-goes c =
     let a = c.args in
     let step = c.in_ok-step-in-Parts in
-    family-begins family.Parts parts_job_say parts_stands ForParts parts-family a.entry a.args.items a.kw.items _ _ step.step c.of_parts.result (sym c.family_of.ensures ∙ c.in-Parts.is) c.of_parts.ensures.step step.ensures.goes
+    family-begins parts-family a.entry a.args a.kw _ _ step.step c.of_parts.result (sym c.family_of.ensures ∙ c.in-Parts.is) c.of_parts.ensures.step step.ensures.goes
 
 pub returns-in_ok-step-in-Comparisons-clause-goes : goal.returns-in_ok-step-in-Comparisons-clause-goes
 returns-in_ok-step-in-Comparisons-clause-goes c =
     let a = c.args in
     let step = c.in_ok-step-in-Comparisons in
-    family-begins family.Comparisons compared_job_say compared_stands ForComparisons comparisons-family a.entry a.args.items a.kw.items _ _ step.step c.of_comparisons.result (sym c.family_of.ensures ∙ c.in-Comparisons.is) c.of_comparisons.ensures.step step.ensures.goes
+    family-begins comparisons-family a.entry a.args a.kw _ _ step.step c.of_comparisons.result (sym c.family_of.ensures ∙ c.in-Comparisons.is) c.of_comparisons.ensures.step step.ensures.goes
 
 pub returns-in_ok-step-in-Repeats-clause-goes : goal.returns-in_ok-step-in-Repeats-clause-goes
 returns-in_ok-step-in-Repeats-clause-goes c =
     let a = c.args in
     let step = c.in_ok-step-in-Repeats in
-    family-begins family.Repeats repeat_job_say repeat_stands ForRepeats repeats-family a.entry a.args.items a.kw.items _ _ step.step c.of_repeats.result (sym c.family_of.ensures ∙ c.in-Repeats.is) c.of_repeats.ensures.step step.ensures.goes
+    family-begins repeats-family a.entry a.args a.kw _ _ step.step c.of_repeats.result (sym c.family_of.ensures ∙ c.in-Repeats.is) c.of_repeats.ensures.step step.ensures.goes
 
 pub returns-in_ok-step-in-Details-clause-goes : goal.returns-in_ok-step-in-Details-clause-goes
 returns-in_ok-step-in-Details-clause-goes c =
     let a = c.args in
     let step = c.in_ok-step-in-Details in
-    family-begins family.Details detail_job_say detail_stands ForDetails details-family a.entry a.args.items a.kw.items _ _ step.step c.of_details.result (sym c.family_of.ensures ∙ c.in-Details.is) c.of_details.ensures.step step.ensures.goes
+    family-begins details-family a.entry a.args a.kw _ _ step.step c.of_details.result (sym c.family_of.ensures ∙ c.in-Details.is) c.of_details.ensures.step step.ensures.goes
 
 pub returns-in_ok-step-in-Calls-clause-goes : goal.returns-in_ok-step-in-Calls-clause-goes
 returns-in_ok-step-in-Calls-clause-goes c =
     let a = c.args in
     let step = c.in_ok-step-in-Calls in
-    family-begins family.Calls asking_job_say asking_stands ForCalls calls-family a.entry a.args.items a.kw.items _ _ step.step c.of_calls.result (sym c.family_of.ensures ∙ c.in-Calls.is) c.of_calls.ensures.step step.ensures.goes
+    family-begins calls-family a.entry a.args a.kw _ _ step.step c.of_calls.result (sym c.family_of.ensures ∙ c.in-Calls.is) c.of_calls.ensures.step step.ensures.goes
 
 pub returns-in_ok-answer-in-Plain-clause-goes : goal.returns-in_ok-answer-in-Plain-clause-goes
 returns-in_ok-answer-in-Plain-clause-goes c =

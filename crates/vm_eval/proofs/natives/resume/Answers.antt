@@ -1,34 +1,32 @@
-use Rattle.vm_eval.proofs.Lemmas.{item_job_say, item_stands, parts_job_say, parts_stands, compared_job_say, compared_stands, repeat_job_say, repeat_stands, detail_job_say, detail_stands, asking_job_say, asking_stands, ForParts, ForComparisons, ForRepeats, ForDetails, ForCalls, family-resumes, items-family, parts-family, comparisons-family, repeats-family, details-family, calls-family}
-use Rattle.vm_eval.specs.declared.natives.family.Family.TheVariants as family
-use Rattle.vm_eval.specs.declared.natives.NativesKept.TheVariants.{ForItems}
+use Rattle.vm_eval.proofs.Lemmas.{family-resumes, items-family, parts-family, comparisons-family, repeats-family, details-family, calls-family}
 use Rattle.vm_eval.proofs.natives.resume.Goals as goal
 
 pub returns-in_ok-step-in-ForItems-clause-goes : goal.returns-in_ok-step-in-ForItems-clause-goes
 returns-in_ok-step-in-ForItems-clause-goes c =
     let step = c.in_ok-step-in-ForItems in
-    family-resumes family.Items item_job_say item_stands ForItems items-family c.args.kept c.in-ForItems.kept c.args.answer _ _ step.step c.of_items.result c.in-ForItems.is c.of_items.ensures.step step.ensures.goes
+    family-resumes items-family c.args.kept c.in-ForItems.kept c.args.answer _ _ step.step c.of_items.result c.in-ForItems.is c.of_items.ensures.step step.ensures.goes
 
 pub returns-in_ok-step-in-ForParts-clause-goes : goal.returns-in_ok-step-in-ForParts-clause-goes
 returns-in_ok-step-in-ForParts-clause-goes c =
     let step = c.in_ok-step-in-ForParts in
-    family-resumes family.Parts parts_job_say parts_stands ForParts parts-family c.args.kept c.in-ForParts.kept c.args.answer _ _ step.step c.of_parts.result c.in-ForParts.is c.of_parts.ensures.step step.ensures.goes
+    family-resumes parts-family c.args.kept c.in-ForParts.kept c.args.answer _ _ step.step c.of_parts.result c.in-ForParts.is c.of_parts.ensures.step step.ensures.goes
 
 pub returns-in_ok-step-in-ForComparisons-clause-goes : goal.returns-in_ok-step-in-ForComparisons-clause-goes
 returns-in_ok-step-in-ForComparisons-clause-goes c =
     let step = c.in_ok-step-in-ForComparisons in
-    family-resumes family.Comparisons compared_job_say compared_stands ForComparisons comparisons-family c.args.kept c.in-ForComparisons.kept c.args.answer _ _ step.step c.of_comparisons.result c.in-ForComparisons.is c.of_comparisons.ensures.step step.ensures.goes
+    family-resumes comparisons-family c.args.kept c.in-ForComparisons.kept c.args.answer _ _ step.step c.of_comparisons.result c.in-ForComparisons.is c.of_comparisons.ensures.step step.ensures.goes
 
 pub returns-in_ok-step-in-ForRepeats-clause-goes : goal.returns-in_ok-step-in-ForRepeats-clause-goes
 returns-in_ok-step-in-ForRepeats-clause-goes c =
     let step = c.in_ok-step-in-ForRepeats in
-    family-resumes family.Repeats repeat_job_say repeat_stands ForRepeats repeats-family c.args.kept c.in-ForRepeats.kept c.args.answer _ _ step.step c.of_repeats.result c.in-ForRepeats.is c.of_repeats.ensures.step step.ensures.goes
+    family-resumes repeats-family c.args.kept c.in-ForRepeats.kept c.args.answer _ _ step.step c.of_repeats.result c.in-ForRepeats.is c.of_repeats.ensures.step step.ensures.goes
 
 pub returns-in_ok-step-in-ForDetails-clause-goes : goal.returns-in_ok-step-in-ForDetails-clause-goes
 returns-in_ok-step-in-ForDetails-clause-goes c =
     let step = c.in_ok-step-in-ForDetails in
-    family-resumes family.Details detail_job_say detail_stands ForDetails details-family c.args.kept c.in-ForDetails.kept c.args.answer _ _ step.step c.of_details.result c.in-ForDetails.is c.of_details.ensures.step step.ensures.goes
+    family-resumes details-family c.args.kept c.in-ForDetails.kept c.args.answer _ _ step.step c.of_details.result c.in-ForDetails.is c.of_details.ensures.step step.ensures.goes
 
 pub returns-in_ok-step-in-ForCalls-clause-goes : goal.returns-in_ok-step-in-ForCalls-clause-goes
 returns-in_ok-step-in-ForCalls-clause-goes c =
     let step = c.in_ok-step-in-ForCalls in
-    family-resumes family.Calls asking_job_say asking_stands ForCalls calls-family c.args.kept c.in-ForCalls.kept c.args.answer _ _ step.step c.of_calls.result c.in-ForCalls.is c.of_calls.ensures.step step.ensures.goes
+    family-resumes calls-family c.args.kept c.in-ForCalls.kept c.args.answer _ _ step.step c.of_calls.result c.in-ForCalls.is c.of_calls.ensures.step step.ensures.goes

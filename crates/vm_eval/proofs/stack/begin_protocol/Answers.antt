@@ -1,4 +1,4 @@
-use Rattle.vm_eval.proofs.Lemmas.{refl, sym, ◌∙◌, protocol_job, leaves-among, number_job_say, number_stands, of_number_kept, iter_job_say, iter_stands, of_iter_kept, items_job_say, items_stands, of_items_kept, ToProtocol, ForNumber, ForIteration, ForItems, of_kept, bodies_in, On, begins-among, number-group, iter-group, items-group}
+use Rattle.vm_eval.proofs.Lemmas.{◌∙◌, refl, leaves-among, of_number_kept, of_iter_kept, of_items_kept, of_kept, bodies_in, begins-among, number-among, iter-among, items-among}
 use Rattle.vm_eval.specs.declared.protocols.Branch.TheVariants as branch
 use Rattle.vm_eval.proofs.stack.begin_protocol.Goals as goal
 
@@ -6,7 +6,7 @@ pub returns-in_ok-step-in-Numbers-clause-goes : goal.returns-in_ok-step-in-Numbe
 returns-in_ok-step-in-Numbers-clause-goes c =
     let step = c.in_ok-step-in-Numbers in
     let on = c.branch_of.ensures ∙ c.in-Numbers.is in
-    begins-among number_job_say number_stands ToProtocol ForNumber (On branch.Numbers) number-group (λ t. protocol_job c.args.task) _ _ step.step c.of_number.result (λ t. on) c.of_number.ensures.step step.ensures.goes
+    begins-among number-among c.args.task _ _ step.step c.of_number.result on c.of_number.ensures.step step.ensures.goes
 
 pub returns-in_ok-step-in-Numbers-clause-safe : goal.returns-in_ok-step-in-Numbers-clause-safe
 returns-in_ok-step-in-Numbers-clause-safe c =
@@ -16,7 +16,7 @@ pub returns-in_ok-step-in-Iterations-clause-goes : goal.returns-in_ok-step-in-It
 returns-in_ok-step-in-Iterations-clause-goes c =
     let step = c.in_ok-step-in-Iterations in
     let on = c.branch_of.ensures ∙ c.in-Iterations.is in
-    begins-among iter_job_say iter_stands ToProtocol ForIteration (On branch.Iterations) iter-group (λ t. protocol_job c.args.task) _ _ step.step c.of_iteration.result (λ t. on) c.of_iteration.ensures.step step.ensures.goes
+    begins-among iter-among c.args.task _ _ step.step c.of_iteration.result on c.of_iteration.ensures.step step.ensures.goes
 
 pub returns-in_ok-step-in-Iterations-clause-safe : goal.returns-in_ok-step-in-Iterations-clause-safe
 returns-in_ok-step-in-Iterations-clause-safe c =
@@ -26,7 +26,7 @@ pub returns-in_ok-step-in-Items-clause-goes : goal.returns-in_ok-step-in-Items-c
 returns-in_ok-step-in-Items-clause-goes c =
     let step = c.in_ok-step-in-Items in
     let on = c.branch_of.ensures ∙ c.in-Items.is in
-    begins-among items_job_say items_stands ToProtocol ForItems (On branch.Items) items-group (λ t. protocol_job c.args.task) _ _ step.step c.of_items.result (λ t. on) c.of_items.ensures.step step.ensures.goes
+    begins-among items-among c.args.task _ _ step.step c.of_items.result on c.of_items.ensures.step step.ensures.goes
 
 pub returns-in_ok-step-in-Items-clause-safe : goal.returns-in_ok-step-in-Items-clause-safe
 returns-in_ok-step-in-Items-clause-safe c =

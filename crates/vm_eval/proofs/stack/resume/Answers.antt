@@ -1,36 +1,36 @@
-use Rattle.vm_eval.proofs.Lemmas.{ap, leaves-among, leaves-open, eval_say, eval_stands, of_eval_kept, attribute_say, attribute_stands, of_attribute_kept, descriptor_say, descriptor_stands, of_descriptor_kept, call_job_say, call_stands, of_call_kept, bodies_of, class_job_say, class_stands, of_class_kept, operator_say, operator_stands, of_operator_kept, compare_job_say, compare_stands, of_compare_kept, number_job_say, number_stands, of_number_kept, iter_job_say, iter_stands, of_iter_kept, items_job_say, items_stands, of_items_kept, object_job_say, object_stands, of_object_kept, native_job_say, natives_stands, of_natives_kept, ToEval, ToAttribute, ToDescriptor, ToCall, ToClass, ToOperator, ToCompare, ToProtocol, ToObject, ForEval, ForAttribute, ForDescriptor, ForCall, ForClass, ForOperator, ForCompare, ForNumber, ForIteration, ForItems, ForObject, ForNative, of_kept, bodies_in, to_native, Any, On, resumes-among, eval-group, attribute-group, descriptor-group, call-group, class-group, operator-group, compare-group, number-group, iter-group, items-group, object-group, native-group}
+use Rattle.vm_eval.proofs.Lemmas.{ap, leaves-among, leaves-open, of_eval_kept, of_attribute_kept, of_descriptor_kept, of_call_kept, bodies_of, of_class_kept, of_operator_kept, of_compare_kept, of_number_kept, of_iter_kept, of_items_kept, of_object_kept, of_natives_kept, of_kept, bodies_in, resumes-among, eval-among, attribute-among, descriptor-among, call-among, class-among, operator-among, compare-among, object-among, native-among, number-among, iter-among, items-among}
 use Rattle.vm_eval.specs.declared.protocols.Branch.TheVariants as branch
 use Rattle.vm_eval.proofs.stack.resume.Goals as goal
 
 pub returns-in_ok-step-in-ForEval-clause-goes : goal.returns-in_ok-step-in-ForEval-clause-goes
 returns-in_ok-step-in-ForEval-clause-goes c =
     let step = c.in_ok-step-in-ForEval in
-    resumes-among eval_say eval_stands ToEval ForEval Any eval-group c.args.kept c.in-ForEval.kept c.args.answer _ _ step.step c.of_eval.result c.in-ForEval.is c.of_eval.ensures.step step.ensures.goes
+    resumes-among eval-among c.args.kept c.in-ForEval.kept c.args.answer _ _ step.step c.of_eval.result c.in-ForEval.is c.of_eval.ensures.step step.ensures.goes
 
 pub returns-in_ok-step-in-ForAttribute-clause-goes : goal.returns-in_ok-step-in-ForAttribute-clause-goes
 returns-in_ok-step-in-ForAttribute-clause-goes c =
     let step = c.in_ok-step-in-ForAttribute in
-    resumes-among attribute_say attribute_stands ToAttribute ForAttribute Any attribute-group c.args.kept c.in-ForAttribute.kept c.args.answer _ _ step.step c.of_attribute.result c.in-ForAttribute.is c.of_attribute.ensures.step step.ensures.goes
+    resumes-among attribute-among c.args.kept c.in-ForAttribute.kept c.args.answer _ _ step.step c.of_attribute.result c.in-ForAttribute.is c.of_attribute.ensures.step step.ensures.goes
 
 pub returns-in_ok-step-in-ForDescriptor-clause-goes : goal.returns-in_ok-step-in-ForDescriptor-clause-goes
 returns-in_ok-step-in-ForDescriptor-clause-goes c =
     let step = c.in_ok-step-in-ForDescriptor in
-    resumes-among descriptor_say descriptor_stands ToDescriptor ForDescriptor Any descriptor-group c.args.kept c.in-ForDescriptor.kept c.args.answer _ _ step.step c.of_descriptor.result c.in-ForDescriptor.is c.of_descriptor.ensures.step step.ensures.goes
+    resumes-among descriptor-among c.args.kept c.in-ForDescriptor.kept c.args.answer _ _ step.step c.of_descriptor.result c.in-ForDescriptor.is c.of_descriptor.ensures.step step.ensures.goes
 
 pub returns-in_ok-step-in-ForCall-clause-goes : goal.returns-in_ok-step-in-ForCall-clause-goes
 returns-in_ok-step-in-ForCall-clause-goes c =
     let step = c.in_ok-step-in-ForCall in
-    resumes-among call_job_say call_stands ToCall ForCall Any call-group c.args.kept c.in-ForCall.kept c.args.answer _ _ step.step c.of_call.result c.in-ForCall.is c.of_call.ensures.step step.ensures.goes
+    resumes-among call-among c.args.kept c.in-ForCall.kept c.args.answer _ _ step.step c.of_call.result c.in-ForCall.is c.of_call.ensures.step step.ensures.goes
 
 pub returns-in_ok-step-in-ForClass-clause-goes : goal.returns-in_ok-step-in-ForClass-clause-goes
 returns-in_ok-step-in-ForClass-clause-goes c =
     let step = c.in_ok-step-in-ForClass in
-    resumes-among class_job_say class_stands ToClass ForClass Any class-group c.args.kept c.in-ForClass.kept c.args.answer _ _ step.step c.of_class.result c.in-ForClass.is c.of_class.ensures.step step.ensures.goes
+    resumes-among class-among c.args.kept c.in-ForClass.kept c.args.answer _ _ step.step c.of_class.result c.in-ForClass.is c.of_class.ensures.step step.ensures.goes
 
 pub returns-in_ok-step-in-ForOperator-clause-goes : goal.returns-in_ok-step-in-ForOperator-clause-goes
 returns-in_ok-step-in-ForOperator-clause-goes c =
     let step = c.in_ok-step-in-ForOperator in
-    resumes-among operator_say operator_stands ToOperator ForOperator Any operator-group c.args.kept c.in-ForOperator.kept c.args.answer _ _ step.step c.of_operator.result c.in-ForOperator.is c.of_operator.ensures.step step.ensures.goes
+    resumes-among operator-among c.args.kept c.in-ForOperator.kept c.args.answer _ _ step.step c.of_operator.result c.in-ForOperator.is c.of_operator.ensures.step step.ensures.goes
 
 pub returns-in_ok-step-in-ForEval-clause-safe : goal.returns-in_ok-step-in-ForEval-clause-safe
 returns-in_ok-step-in-ForEval-clause-safe c =
@@ -59,12 +59,12 @@ returns-in_ok-step-in-ForCall-clause-safe c =
 pub returns-in_ok-step-in-ForCompare-clause-goes : goal.returns-in_ok-step-in-ForCompare-clause-goes
 returns-in_ok-step-in-ForCompare-clause-goes c =
     let step = c.in_ok-step-in-ForCompare in
-    resumes-among compare_job_say compare_stands ToCompare ForCompare Any compare-group c.args.kept c.in-ForCompare.kept c.args.answer _ _ step.step c.of_compare.result c.in-ForCompare.is c.of_compare.ensures.step step.ensures.goes
+    resumes-among compare-among c.args.kept c.in-ForCompare.kept c.args.answer _ _ step.step c.of_compare.result c.in-ForCompare.is c.of_compare.ensures.step step.ensures.goes
 
 pub returns-in_ok-step-in-ForNumber-clause-goes : goal.returns-in_ok-step-in-ForNumber-clause-goes
 returns-in_ok-step-in-ForNumber-clause-goes c =
     let step = c.in_ok-step-in-ForNumber in
-    resumes-among number_job_say number_stands ToProtocol ForNumber (On branch.Numbers) number-group c.args.kept c.in-ForNumber.kept c.args.answer _ _ step.step c.of_number.result c.in-ForNumber.is c.of_number.ensures.step step.ensures.goes
+    resumes-among number-among c.args.kept c.in-ForNumber.kept c.args.answer _ _ step.step c.of_number.result c.in-ForNumber.is c.of_number.ensures.step step.ensures.goes
 
 pub returns-in_ok-step-in-ForCompare-clause-safe : goal.returns-in_ok-step-in-ForCompare-clause-safe
 returns-in_ok-step-in-ForCompare-clause-safe c =
@@ -77,22 +77,22 @@ returns-in_ok-step-in-ForNumber-clause-safe c =
 pub returns-in_ok-step-in-ForIteration-clause-goes : goal.returns-in_ok-step-in-ForIteration-clause-goes
 returns-in_ok-step-in-ForIteration-clause-goes c =
     let step = c.in_ok-step-in-ForIteration in
-    resumes-among iter_job_say iter_stands ToProtocol ForIteration (On branch.Iterations) iter-group c.args.kept c.in-ForIteration.kept c.args.answer _ _ step.step c.of_iteration.result c.in-ForIteration.is c.of_iteration.ensures.step step.ensures.goes
+    resumes-among iter-among c.args.kept c.in-ForIteration.kept c.args.answer _ _ step.step c.of_iteration.result c.in-ForIteration.is c.of_iteration.ensures.step step.ensures.goes
 
 pub returns-in_ok-step-in-ForItems-clause-goes : goal.returns-in_ok-step-in-ForItems-clause-goes
 returns-in_ok-step-in-ForItems-clause-goes c =
     let step = c.in_ok-step-in-ForItems in
-    resumes-among items_job_say items_stands ToProtocol ForItems (On branch.Items) items-group c.args.kept c.in-ForItems.kept c.args.answer _ _ step.step c.of_items.result c.in-ForItems.is c.of_items.ensures.step step.ensures.goes
+    resumes-among items-among c.args.kept c.in-ForItems.kept c.args.answer _ _ step.step c.of_items.result c.in-ForItems.is c.of_items.ensures.step step.ensures.goes
 
 pub returns-in_ok-step-in-ForObject-clause-goes : goal.returns-in_ok-step-in-ForObject-clause-goes
 returns-in_ok-step-in-ForObject-clause-goes c =
     let step = c.in_ok-step-in-ForObject in
-    resumes-among object_job_say object_stands ToObject ForObject Any object-group c.args.kept c.in-ForObject.kept c.args.answer _ _ step.step c.of_object.result c.in-ForObject.is c.of_object.ensures.step step.ensures.goes
+    resumes-among object-among c.args.kept c.in-ForObject.kept c.args.answer _ _ step.step c.of_object.result c.in-ForObject.is c.of_object.ensures.step step.ensures.goes
 
 pub returns-in_ok-step-in-ForNative-clause-goes : goal.returns-in_ok-step-in-ForNative-clause-goes
 returns-in_ok-step-in-ForNative-clause-goes c =
     let step = c.in_ok-step-in-ForNative in
-    resumes-among native_job_say natives_stands to_native ForNative Any native-group c.args.kept c.in-ForNative.kept c.args.answer _ _ step.step c.of_native.result c.in-ForNative.is c.of_native.ensures.step step.ensures.goes
+    resumes-among native-among c.args.kept c.in-ForNative.kept c.args.answer _ _ step.step c.of_native.result c.in-ForNative.is c.of_native.ensures.step step.ensures.goes
 
 pub returns-in_ok-step-in-ForIteration-clause-safe : goal.returns-in_ok-step-in-ForIteration-clause-safe
 returns-in_ok-step-in-ForIteration-clause-safe c =

@@ -1,13 +1,12 @@
-use Rattle.proto_call.proofs.Lemmas.{◌∙◌, ap, refl, [], Metaclass, known_text, DoCall, ToCall, bindings, IsNode, AllHold, of_binding, of_each, grows-itself, all-append, no-nodes, class_job_say, without-read, filter-holds}
+use Rattle.proto_call.proofs.Lemmas.{◌∙◌, ap, refl, [], Metaclass, known_text, DoCall, ToCall, bindings, IsNode, AllHold, of_binding, of_each, grows-itself, all-append, no-nodes, without-read, filter-holds}
 use Rattle.std.proofs.Common.{◌∷◌}
 use Rattle.proto_call.proofs.class_make.hook.call_hook.Goals as goal
 
 pub returns-clause-goes : goal.returns-clause-goes
-unfolding class_job_say
 returns-clause-goes c = λ t r.
     let kept = rw c.deref.ensures.value at c.in_ok-kw.ensures in
     let rest = ap (bindings t) kept ∙ without-read t c.args.kw.items c.known-metaclass.result (known_text Metaclass) (c.known-metaclass.ensures.spelled t r) in
-    (r, (λ i. ToCall (DoCall c.args.method (c.new.ensures.items i) (rest i)), refl, record { says = λ w s more. refl }))
+    (r, (λ i. ToCall (DoCall c.args.method (c.new.ensures.items i) (rest i)), refl, λ w s more. refl))
 
 pub returns-clause-safe : goal.returns-clause-safe
 returns-clause-safe c =

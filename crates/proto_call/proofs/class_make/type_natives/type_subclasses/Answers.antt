@@ -1,4 +1,4 @@
-use Rattle.proto_call.proofs.Lemmas.{err_from_is_err_and, sym, ap, subst, ◌∙◌, place_of, subclasses, Includes, numbers, the_list, AList, Holds, plain, bindings, datum, sized_made, classes_made, type_subclasses, ends-after, subclass-there, subclasses-seen}
+use Rattle.proto_call.proofs.Lemmas.{err_from_is_err_and, sym, ap, subst, ◌∙◌, place_of, subclasses, Includes, the_list, AList, Holds, plain, bindings, datum, sized_made, classes_made, type_subclasses, ends-after, subclass-there, subclasses-seen}
 use Rattle.py_node.specs.declared.payload.Payload.TheVariants as payload
 use Rattle.proto_call.proofs.class_make.type_natives.type_subclasses.Goals as goal
 

@@ -1,5 +1,5 @@
 use Rattle.py_node.specs.declared.entry.TypeNative.TheVariants as type
-use Rattle.proto_call.proofs.Lemmas.{EndsAs, bindings, plain, class_job_say, type_native_say, class_stands, DoType, fresh, caught_goes, type-ends, types-begin}
+use Rattle.proto_call.proofs.Lemmas.{[], End, EndsAs, PlainWorld, Reading, bindings, plain, class_group, class_job_say, type_native_say, DoType, ends-follow, read-follows, sorted_ends, type-ends, types-begin}
 use Rattle.proto_call.proofs.class_make.type_new.type_native.Goals as goal
 
 pub returns-in-New-clause-goes : goal.returns-in-New-clause-goes
@@ -37,4 +37,7 @@ returns-in_ok-answer-in_default-clause-goes c =
     let e = c.in_ok-answer-in_default in
     let d = c.in_default in
     let ends = rw (c.deref.ensures.value, c.deref-in_default.ensures.value) at f.ensures.ends in
-    caught_goes class_job_say class_stands (λ t. fresh (DoType n args (bindings t kw))) (λ t u. type_native_say u n args (bindings t kw)) old f.new.world f.result e.answer e.ensures ends (λ t q. type-ends (plain t old) n args (bindings t kw) d.not-New d.not-GetAttribute d.not-SetAttr d.not-DelAttr d.not-Call)
+    let row = λ (t : Reading) (u : PlainWorld). class_job_say u (DoType n args (bindings t kw)) in
+    let said = λ (t : Reading) (u : PlainWorld). type_native_say u n args (bindings t kw) in
+    read-follows class_group row (λ t u. row t u []) old f.new.world said (End e.answer) (λ t q. type-ends (plain t old) n args (bindings t kw) d.not-New d.not-GetAttribute d.not-SetAttr d.not-DelAttr d.not-Call)
+    (ends-follow class_group row said old f.new.world e.answer (sorted_ends f.result e.answer (EndsAs said old f.new.world) e.ensures ends))

@@ -1,4 +1,4 @@
-use Rattle.proto_call.proofs.Lemmas.{sym, ap, ◌∙◌, rules, w64, FitsSigned, to_z-of_z, pass, plain, ended_of, Count, counted_task, with_index, asks-then, count-stands}
+use Rattle.proto_call.proofs.Lemmas.{sym, ap, ◌∙◌, rules, w64, FitsSigned, to_z-of_z, pass, plain, ended_of, Count, counted_task, with_index, asks-then, made, start}
 use Rattle.proto_call.proofs.eval_forms.bounds.with_count.Goals as goal
 
 pub returns-in-Ok-clause-goes : goal.returns-in-Ok-clause-goes
@@ -10,5 +10,5 @@ returns-in-Ok-clause-goes c =
     let fits : FitsSigned w64 c.in-Ok.count = search rules in
     let task = simp to_z-of_z at c.counted_task.ensures.task in
     asks-then (Count k o) c.args.answer w c.counted_task.result c.counted_outcome.result (λ t u. with_index u s (λ z. pass u (counted_task k o z)))
-    (λ t u more. rw c.counted_outcome.ensures (count-stands t k o u s more))
+    (λ t u more. ap (λ m. start (with_index u s (λ z. pass u (counted_task k o z))) (made u m) more) c.counted_outcome.ensures)
     (λ t. c.in-Ok.ensures.given t (λ z. pass (plain t w) (counted_task k o z)) ∙ ap (pass (plain t w)) (sym (task t)))

@@ -1,4 +1,4 @@
-use Rattle.proto_call.proofs.Lemmas.{sym, ap, ◌∙◌, rules, w64, FitsSigned, to_z-of_z, pass, value, plain, ended_of, Stop, part_task, with_index, asks-then, stop-stands}
+use Rattle.proto_call.proofs.Lemmas.{sym, ap, ◌∙◌, rules, w64, FitsSigned, to_z-of_z, pass, value, plain, ended_of, Stop, part_task, with_index, asks-then, made, start}
 use Rattle.proto_call.proofs.eval_forms.bounds.with_stop.Goals as goal
 
 pub returns-in-Ok-number_in-clause-goes : goal.returns-in-Ok-number_in-clause-goes
@@ -13,7 +13,7 @@ returns-in-Ok-number_in-clause-goes c =
     let there : FitsSigned w64 c.in-Ok-number_in.last = search rules in
     let task = simp to_z-of_z at c.part_task.ensures.task in
     asks-then (Stop p o i) c.args.answer w c.part_task.result c.part_outcome.result (λ t u. with_index u (value i) (λ a. with_index u s (λ b. pass u (part_task p o a b))))
-    (λ t u more. rw c.part_outcome.ensures (stop-stands t p o i u s more))
+    (λ t u more. ap (λ m. start (with_index u (value i) (λ a. with_index u s (λ b. pass u (part_task p o a b)))) (made u m) more) c.part_outcome.ensures)
     (λ t. c.in-Ok.ensures.given t (λ a. with_index (plain t w) s (λ b. pass (plain t w) (part_task p o a b)))
     ∙ c.in-Ok-number_in.ensures.given t (λ b. pass (plain t w) (part_task p o first b))
     ∙ ap (pass (plain t w)) (sym (task t)))

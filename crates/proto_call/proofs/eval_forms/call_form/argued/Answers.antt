@@ -1,5 +1,5 @@
-use Rattle.proto_call.proofs.Lemmas.{[], map, ap, length, sym, subst, ◌∙◌, append_assoc, arith, length-append, IfOk, ltb-true, map-append, End, Answered, DoEval, of_ended, ended_of, Goes, AllHold, Holds, more-nodes, Arguments, Resumes, answered, arguments, arguments_at, called_told, called_tree, eval_stands, eval_say, argument-other}
-use Rattle.std.proofs.Common.{◌≡◌, ◌∷◌, ◌++◌}
+use Rattle.proto_call.proofs.Lemmas.{[], ap, length, sym, subst, arith, length-append, ltb-true, End, of_ended, AllHold, Holds, more-nodes, Arguments, Resumes, arguments, arguments_at, argument-more, argument-other}
+use Rattle.std.proofs.Common.{◌∷◌}
 use Rattle.proto_call.proofs.eval_forms.call_form.argued.Goals as goal
 
 pub next_argument-requires-clause-values : goal.next_argument-requires-clause-values
@@ -32,16 +32,7 @@ next_argument-requires-clause-called c = c.requires.kept.1.1.1
 
 pub returns-in_ok-values-in-Ok-clause-goes : goal.returns-in_ok-values-in-Ok-clause-goes
 returns-in_ok-values-in-Ok-clause-goes c =
-    let w = c.args.world.now in
-    let f = c.args.called in
-    let vs = c.args.values.items in
-    let more : called_told f ++ map answered c.in_ok-values-in-Ok.values.items ≡ (called_told f ++ map answered vs) ++ Answered (ended_of c.args.answer) ∷ [] =
-    ap (λ xs. called_told f ++ map answered xs) c.in_ok-values-in-Ok.ensures
-    ∙ ap (λ facts. called_told f ++ facts) (map-append answered vs (c.in-Ok.value ∷ []))
-    ∙ sym (append_assoc (called_told f) (map answered vs) (answered c.in-Ok.value ∷ []))
-    ∙ ap (λ a. (called_told f ++ map answered vs) ++ Answered (ended_of a) ∷ []) (sym c.in-Ok.ensures.object) in
-    subst (λ told. IfOk c.next_argument.result (λ step. Goes eval_say eval_stands (λ t. record { task = DoEval (called_tree f (t.tree c.args.e)); told = told }) w w step))
-    more c.next_argument.ensures.goes
+    argument-more c.args.world.now c.args.e c.args.called c.args.values c.in_ok-values-in-Ok.values c.in-Ok.value c.args.answer c.next_argument.result c.in-Ok.ensures.object c.in_ok-values-in-Ok.ensures c.next_argument.ensures.goes
 
 pub returns-in_ok-values-in-Ok-clause-safe : goal.returns-in_ok-values-in-Ok-clause-safe
 returns-in_ok-values-in-Ok-clause-safe c = c.next_argument.ensures.safe

@@ -1,8 +1,7 @@
-use Rattle.proto_call.proofs.Lemmas.{[], refl, ap, ◌∙◌, of_task, bindings, AllHold, of_binding, of_each, all-append, called_task, eval_say}
+use Rattle.proto_call.proofs.Lemmas.{[], refl, ap, ◌∙◌, of_task, bindings, AllHold, of_binding, of_each, all-append, called_task}
 use Rattle.proto_call.proofs.eval_forms.call_form.call_plainly.Goals as goal
 
 pub returns-clause-goes : goal.returns-clause-goes
-unfolding eval_say
 returns-clause-goes c = λ w t reads. (
   reads,
   (

@@ -1,4 +1,4 @@
-use Rattle.proto_call.proofs.Lemmas.{length, map, sym, ap, ◌∙◌, IfOk, PlainWorld, Reading, spelled, of_step, AllHold, Holds, AreNames, AreNodes, World, ok-map, given_say, Arguments, Takes, GoesOn, called_task, positional, named, of_called, of_eval_kept, all-given, argument-asked, argument-holds, arguments-given, has-argument, named-hold, no-more, plainly-given}
+use Rattle.proto_call.proofs.Lemmas.{length, map, sym, ap, ◌∙◌, IfOk, PlainWorld, Reading, spelled, of_step, AllHold, Holds, AreNames, AreNodes, World, ok-map, given_say, Goes, arguments_row, called_task, positional, named, of_called, of_eval_kept, all-given, argument-asked, argument-holds, arguments-given, has-argument, named-hold, no-more, plainly-given}
 use Rattle.proto_call.proofs.eval_forms.call_form.next_argument.Goals as goal
 
 pub returns-in-Some-clause-goes : goal.returns-in-Some-clause-goes
@@ -25,9 +25,9 @@ returns-in_ok-names-in-None-clause-goes c =
     let e = rw (c.len.ensures, c.args.values.ok.0) at c.argument.ensures in
     let names = c.in_ok-names-in-None.ensures ∙ ap (map (λ k. k.0)) c.named-keywords.ensures in
     let row = λ (t : Reading) (u : PlainWorld). given_say u (called_task called) (length (positional f)) (map (spelled t) (map (λ k. k.0) (named f))) vs.items in
-    let goes : IfOk c.call_with.result (λ step. (v : World) → Takes row v v step) =
+    let goes : IfOk c.call_with.result (λ step. (v : World) → Goes row v v step) =
     rw (← c.positional.ensures, ← names, ← c.deref.ensures.value, ← c.deref-in-None.ensures.value) c.call_with.ensures.goes in
-    ok-map (λ step. (v : World) → Takes row v v step) (λ step. GoesOn (Arguments c.args.e called vs) w w step) c.call_with.result
+    ok-map (λ step. (v : World) → Goes row v v step) (λ step. Goes (λ t. arguments_row (t.tree c.args.e) called vs.items) w w step) c.call_with.result
     (λ step k. arguments-given w c.args.e f called vs step c.form-form.ensures.stored (sym e ∙ c.in-None.is) c.requires.fits (k w)) goes
 
 pub returns-in_ok-names-in-None-clause-safe : goal.returns-in_ok-names-in-None-clause-safe

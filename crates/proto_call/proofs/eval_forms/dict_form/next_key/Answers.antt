@@ -1,4 +1,4 @@
-use Rattle.proto_call.proofs.Lemmas.{sym, ◌∙◌, ok-map, grows-itself, entries_from, Key, EndsRow, GoesOn, make_dict, key-asked, dict-made, part-holds, has-pair}
+use Rattle.proto_call.proofs.Lemmas.{sym, ◌∙◌, ok-map, grows-itself, entries_from, EndsRow, Goes, pairs_row, make_dict, key-asked, dict-made, part-holds, has-pair}
 use Rattle.proto_call.proofs.eval_forms.dict_form.next_key.Goals as goal
 
 pub returns-in-Some-clause-goes : goal.returns-in-Some-clause-goes
@@ -26,4 +26,4 @@ returns-in-None-clause-goes c =
     let es = c.args.found in
     let e = rw (c.len.ensures, c.args.found.ok.0) at c.pair.ensures in
     let goes = rw c.deref.ensures.value at c.make_dict.ensures.goes in
-    ok-map (λ step. EndsRow (λ t u. make_dict u (entries_from u es.items)) w new step) (λ step. GoesOn (Key c.args.e es) w new step) c.make_dict.result (λ step k. dict-made w new c.args.e c.form.result.now es step c.form.ensures.stored (sym e ∙ c.in-None.is) c.requires.fits c.requires.found.1.1.0 k) goes
+    ok-map (λ step. EndsRow (λ t u. make_dict u (entries_from u es.items)) w new step) (λ step. Goes (λ t. pairs_row (t.tree c.args.e) es.items) w new step) c.make_dict.result (λ step k. dict-made w new c.args.e c.form.result.now es step c.form.ensures.stored (sym e ∙ c.in-None.is) c.requires.fits c.requires.found.1.1.0 k) goes

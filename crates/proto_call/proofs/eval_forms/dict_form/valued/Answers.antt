@@ -1,4 +1,4 @@
-use Rattle.proto_call.proofs.Lemmas.{[], Ok, length, sym, subst, ◌∙◌, arith, length-append, IfOk, KeyType, End, fault, of_ended, AllHold, ok-map, Key, Value as OfKey, GoesOn, Resumes, value-ends, refused-ends, pair-found, pairs-pushed, fits-more}
+use Rattle.proto_call.proofs.Lemmas.{[], Ok, length, sym, subst, ◌∙◌, arith, length-append, IfOk, KeyType, End, fault, of_ended, AllHold, ok-map, Value as OfKey, Goes, Resumes, pairs_row, value-ends, refused-ends, pair-found, pairs-pushed, fits-more}
 use Rattle.std.proofs.Common.{◌∷◌}
 use Rattle.py_node.specs.declared.task.Answer.TheVariants.{Value}
 use Rattle.proto_call.proofs.eval_forms.dict_form.valued.Goals as goal
@@ -30,7 +30,7 @@ returns-in_ok-push-in-Ok-clause-goes c =
     let k = c.args.key in
     let v = c.in-Ok.value in
     subst (λ s. IfOk c.next_key.result (λ step. Resumes (OfKey e es k) s w new step)) (sym c.in-Ok.ensures.object)
-    (ok-map (λ step. GoesOn (Key e c.push.new.self) w new step) (λ step. Resumes (OfKey e es k) (Ok (Value v)) w new step) c.next_key.result (λ step h. pair-found w new e es c.push.new.self k v step c.in_ok-push-in-Ok.ensures.items h) c.next_key.ensures.goes)
+    (ok-map (λ step. Goes (λ t. pairs_row (t.tree e) c.push.new.self.items) w new step) (λ step. Resumes (OfKey e es k) (Ok (Value v)) w new step) c.next_key.result (λ step h. pair-found w new e es c.push.new.self k v step c.in_ok-push-in-Ok.ensures.items h) c.next_key.ensures.goes)
 
 pub returns-in-Err-clause-goes : goal.returns-in-Err-clause-goes
 returns-in-Err-clause-goes c =

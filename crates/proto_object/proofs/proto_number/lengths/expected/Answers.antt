@@ -1,4 +1,4 @@
-use Rattle.proto_object.proofs.Lemmas.{[], refl, sym, ◌∙◌, Answered, plain, number_job_say, hint-expects}
+use Rattle.proto_object.proofs.Lemmas.{[], refl, sym, ◌∙◌, Answered, plain, hint-expects}
 use Rattle.std.proofs.Common.{◌∷◌}
 use Rattle.proto_object.proofs.proto_number.lengths.expected.Goals as goal
 
@@ -10,7 +10,6 @@ returns-in-None-clause-goes c = λ t r.
     (r, rw (expects, c.method.ensures.found t r ∙ c.in-None.is) (c.or_given.ensures.answer, refl))
 
 pub returns-in-Some-clause-goes : goal.returns-in-Some-clause-goes
-unfolding number_job_say
 returns-in-Some-clause-goes c = λ t r.
     let a = c.args in
     let e = sym c.is_type_error.ensures ∙ c.if-not-is_type_error.false in
@@ -18,5 +17,5 @@ returns-in-Some-clause-goes c = λ t r.
     let expects = hint-expects (plain t a.world.now) a.o a.given a.answer x [] c.in-Err.is e in (
       r,
       rw (expects, c.method.ensures.found t r ∙ c.in-Some.is, c.type_object.ensures.object t)
-          (refl, refl, record { says = λ u q more. hint-expects u a.o a.given a.answer x (Answered q ∷ more) c.in-Err.is e }),
+          (refl, refl, λ u q more. hint-expects u a.o a.given a.answer x (Answered q ∷ more) c.in-Err.is e),
     )

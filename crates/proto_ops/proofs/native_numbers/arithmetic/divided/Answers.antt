@@ -1,4 +1,4 @@
-use Rattle.proto_ops.proofs.Lemmas.{Ok, sym, ◌∙◌, rules, w128, FitsSigned, to_z-of_z, place_of, quotient, remainder, pair-ends}
+use Rattle.proto_ops.proofs.Lemmas.{Ok, sym, rules, w128, FitsSigned, to_z-of_z, place_of, quotient, remainder, pair-ends}
 use Rattle.std.proofs.Common.{◌≡◌}
 use Rattle.proto_ops.proofs.native_numbers.arithmetic.divided.Goals as goal
 
