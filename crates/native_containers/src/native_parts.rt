@@ -11,7 +11,7 @@ ghost use Rattle.native_containers.specs.NativeParts.Rows.{Begins, Resumes, of_p
 mod hash;
 mod makers;
 mod numbers;
-mod take;
+mod parts;
 mod texts;
 mod wrapped;
 
@@ -20,12 +20,12 @@ pub use hash::Hashing;
 use hash::{begin_hash, hash_given};
 use makers::{begin_list, begin_str, begin_tuple, fill, str_made, tuple_made};
 use numbers::{begin_bool, begin_int, int_made};
+pub use parts::Container;
 use py_node::task::{Args, Keywords};
 use py_node::{
     Answer, BuiltIn, DictNative, FuncArgs, ListNative, NativeEntry, OutOfMemory, PyObjectRef,
     PyTypeRef, Raised, Step, TupleNative, WrapperNative,
 };
-pub use take::Container;
 pub use texts::Parts;
 use texts::{begin_text, text_given};
 pub use wrapped::Wrapper;

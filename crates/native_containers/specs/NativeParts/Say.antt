@@ -5,7 +5,7 @@ use Rattle.py_node.specs.declared.entry.TupleNative.TheVariants as tuple
 use Rattle.py_node.specs.declared.entry.ListNative.TheVariants as list
 use Rattle.py_node.specs.declared.entry.DictNative.TheVariants as dict
 use Rattle.py_node.specs.declared.entry.WrapperNative.TheVariants as wrapper
-use Rattle.native_containers.specs.declared.native_parts.take.Container.TheVariants as container
+use Rattle.native_containers.specs.declared.native_parts.parts.Container.TheVariants as container
 use Rattle.native_containers.specs.declared.native_parts.wrapped.Wrapper.TheVariants.{Class, Static}
 use Rattle.native_containers.specs.NativeParts.Texts.{tuple_hash, container_repr, wrapper_repr}
 use Rattle.native_containers.specs.NativeParts.Numbers.{int_new_say, bool_new_say}
