@@ -186,7 +186,7 @@ pub use Rattle.vm_calls.specs.Loaded.{InvokedIsCalled, LoadedIsRead}
 pub use Rattle.vm_calls.specs.OfProtocols.Views.{HasMappingSlots, HasSequenceSlots, is_of_mappings, is_of_numbers, is_of_sequences, only}
 unfoldable pub use Rattle.vm_calls.specs.SlotTables.Numbers.{given_by, method_entry, number_entry}
 unfoldable pub use Rattle.vm_calls.specs.SlotTables.Tables.{mapping_entry, sequence_entry, type_entry}
-pub use Rattle.vm_calls.specs.Told.{EndIs, EndsAs, Tells}
+pub use Rattle.vm_calls.specs.Told.{EndIs, EndsLike, Tells}
 pub use Rattle.vm_calls.specs.Views.{AskedWith, MakesNode, TellsItems, TellsMadeOf, ToldWith, lacks, made_of}
 pub use Rattle.vm_calls.specs.declared.slot_tables.number.PyNumberMethods.{PyNumberMethods}
 pub use Rattle.vm_calls.specs.declared.slot_tables.number.PyNumberSlots.{PyNumberSlots}
