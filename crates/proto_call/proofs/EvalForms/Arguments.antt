@@ -102,12 +102,12 @@ argument-first w e c vs row (Err x) none same h = tt
 
 -- what is no attribute is called
 callee-plain : (text : ℕ → Text) (tree : ℕ → Tree) (f : Form) (u : PlainWorld) (es : Trees) (kw : Entries) (v : PyObjectRef) (more : Told) → attribute f ≡ None → callee_say u (form_tree text tree f) es kw v more ≡ call_say u es kw v more
-callee-plain text tree (form.Attr o x) u es kw v more no = cc
-callee-plain text tree _ u es kw v more no = refl
+callee-plain text tree (form.Attr o x) u es kw v more bare = cc
+callee-plain text tree _ u es kw v more bare = refl
 
 pub call-first : (w : World) (e g : ℕ) (f : Form) (v : PyObjectRef) (vs : Vec PyObjectRef) (r : Result (Step EvalKept) OutOfMemory) → slice_get w.forms g ≡ Some f → attribute f ≡ None → vs.items ≡ [] → IfOk r (λ step. Goes (λ t. arguments_row (t.tree e) (called.Object v) vs.items) w w step) → IfOk r (λ step. Goes (λ t u. callee_say u (t.tree g) (args_of (t.tree e)) (keywords_of (t.tree e)) v) w w step)
-call-first w e g f v vs r stored no none h =
-    argument-first w e (called.Object v) vs (λ t u. callee_say u (t.tree g) (args_of (t.tree e)) (keywords_of (t.tree e)) v) r none (λ t q u more. ap (λ x. callee_say u x (args_of (t.tree e)) (keywords_of (t.tree e)) v more) (q.trees g f stored) ∙ callee-plain t.text t.tree f u (args_of (t.tree e)) (keywords_of (t.tree e)) v more no) h
+call-first w e g f v vs r stored bare none h =
+    argument-first w e (called.Object v) vs (λ t u. callee_say u (t.tree g) (args_of (t.tree e)) (keywords_of (t.tree e)) v) r none (λ t q u more. ap (λ x. callee_say u x (args_of (t.tree e)) (keywords_of (t.tree e)) v more) (q.trees g f stored) ∙ callee-plain t.text t.tree f u (args_of (t.tree e)) (keywords_of (t.tree e)) v more bare) h
 
 pub method-first : (w : World) (e : ℕ) (m : PyMethod) (vs : Vec PyObjectRef) (s : Result Answer Fault) (r : Result (Step EvalKept) OutOfMemory) → s ≡ Ok (Method m) → vs.items ≡ [] → IfOk r (λ step. Goes (λ t. arguments_row (t.tree e) (called.Method m) vs.items) w w step) → IfOk r (λ step. Resumes (Load e) s w w step)
 method-first w e m vs s r given none h =
