@@ -42,7 +42,7 @@ native_by w (SetterOf b d) args kw = setter_of_say w b d args kw
 native_by w _ args kw = Ends w elsewhere
 
 -- the family of natives that one is of, by its class and what it asks
-unfoldable pub family_of : NativeEntry → Family
+abbrev pub family_of : NativeEntry → Family
 family_of (OfStr str.GetItem) = family.Items
 family_of (OfStr str.Multiply) = family.Repeats
 family_of (OfStr str.RightMultiply) = family.Repeats

@@ -28,7 +28,6 @@ pub enum Family {
 }
 
 /// The family that a native is of: its class, and which of the class's natives it is.
-#[tactic(auto, unfolding(crate::specs::OfNatives::Say::family_of))]
 pub(crate) fn family_of(entry: NativeEntry) -> Family
     ensures { result ≡ family_of entry }
 {
