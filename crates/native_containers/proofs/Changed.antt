@@ -1,5 +1,5 @@
 -- What is said where a list or a dict changes, by what its new contents are.
-use Rattle.native_containers.proofs.Below.{true, false, cond, List, length, fold, Err, sym, ap, ◌∙◌, nat_le, PyObjectRef, TooLong, Entries, with_entry, PlainWorld, Said, Ends, most_items, fault, unless_long, dict_changed, dict_updated, entries_at, with_kind}
+use Rattle.native_containers.proofs.Below.{true, false, cond, List, length, fold, sym, ap, ◌∙◌, nat_le, PyObjectRef, TooLong, Entries, with_entry, PlainWorld, Said, Ends, most_items, fault, unless_long, dict_changed, dict_updated, entries_at, with_kind}
 use Rattle.std.proofs.Common.{◌≡◌}
 use Rattle.row_kit.specs.declared.take_containers.Kind.TheVariants as kind
 

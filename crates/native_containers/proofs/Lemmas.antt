@@ -33,13 +33,13 @@ pub use Rattle.native_containers.proofs.NativeTexts.Inside.{inside}
 pub use Rattle.native_containers.proofs.NativeTexts.Repr.{utf8_repr}
 pub use Rattle.native_containers.proofs.Payloads.{entries-all, entry-more}
 pub use Rattle.native_containers.proofs.Under.{length-new, length-put, not-taken, taken}
-pub use Rattle.native_containers.specs.Below.{Compare, DelItem, InplaceAdd, IsUtf8, NewOf, OfIterator, OfList, SetItem, chars, encode_utf8_all, list_made, of_task, text_made, tuple_made}
+pub use Rattle.native_containers.specs.Below.{Compare, DelItem, InplaceAdd, IsUtf8, NewOf, OfIterator, OfList, OfTuple, SetItem, chars, encode_utf8_all, list_made, of_task, text_made, tuple_made}
 pub use Rattle.native_containers.specs.NativeCompare.Containers.{dicts_by, in_turn, sequences_by, turns_of}
 pub use Rattle.native_containers.specs.NativeCompare.Rows.{left}
 pub use Rattle.native_containers.specs.NativeItems.Items.{char_rest, chars_at, del_asked, del_item, del_rest, extend, extend_rest, get_item, item_asked, item_got, look_for, placed, set_item, set_rest}
 pub use Rattle.native_containers.specs.NativeItems.Iterators.{found_in, iterator_in, next_by, next_from, next_in, next_item, next_place, next_rest, with_place}
 pub use Rattle.native_containers.specs.NativeItems.Places.{part, place_at, put_between, put_part}
-pub use Rattle.native_containers.specs.NativeItems.Rows.{Resumes, getter_of, items_stood, made_as, next_asked, of_item_kept, searcher_of, stood_told}
+pub use Rattle.native_containers.specs.NativeItems.Rows.{Enters, Resumes, getter_of, items_stood, made_as, next_asked, of_item_kept, searcher_of, stood_told}
 pub use Rattle.native_containers.specs.NativeParts.Texts.{closing, flattened, hashed_on, parts_in, text_at}
 pub use Rattle.native_containers.specs.declared.native_items.ItemKept.TheVariants.{Deleting, Extending, Getting, GettingCharacter, Iterating, Searching, Setting}
 pub use Rattle.plain_machine.specs.Dicts.{Entries, entries_in, with_entries, with_entry}

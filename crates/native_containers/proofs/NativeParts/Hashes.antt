@@ -1,6 +1,6 @@
 -- How a tuple asks for the hashes of its items.
 use Rattle.native_containers.proofs.Below.{◌∙◌, List, [], drop, ℤ, pos, Result, Ok, Err, refl, sym, subst, ap, Raised as Fault, PyObjectRef, PyStrInterned, OfTuple, Answer, Method, Number, Step, Ask, End, PlainWorld, Bindings, Said, Ends, Told, ReadObjects, ToNative, Row, end, noting, on_number, World, Reading, bindings, plain, ended_of, with_lone, PartsKept, Hashes, Hashing, IsNoNumber, Resumes, Starts, left_to_hash, parts_stands, parts_job_say, hash_row, parts_at, Goes, parts_group, goes-as}
-use Rattle.std.proofs.Common.{◌≡◌, ◌∷◌, ◌++◌, ◌+ℤ◌, ◌-ℤ◌, ◌*ℤ◌}
+use Rattle.std.proofs.Common.{◌≡◌, ◌∷◌}
 use Rattle.py_node.specs.declared.entry.TupleNative.TheVariants as tuple
 use Rattle.py_node.specs.declared.task.PyMethod.TheVariants as method
 use Rattle.py_node.specs.declared.protocol.ObjectTask.TheVariants as object

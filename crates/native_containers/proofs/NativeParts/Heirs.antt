@@ -1,6 +1,6 @@
 -- What makes numbers, truth values, texts and tuples: what it says, and how it goes on.
 use Rattle.native_containers.proofs.Below.{◌∙◌, ℕ, ℤ, pos, false, cond, List, [], Option, Some, None, Ok, Err, refl, ap, eq-eqb, ne_eqb, NewOf, SelfType, PyObjectRef, PyTypeRef, Value, End, raised, Text, the_int, the_str, class_object, ANumber, AText, ATuple, PlainWorld, Bindings, DoWhole, DoIsTrue, DoStr, DoCollect, ToObject, ToProtocol, ToNative, Ended, Said, Ends, Told, Answered, ReadObjects, pass, truth, value, datum_at, next_node, number_of, ref, with_node, World, Reading, Reads, plain, object_made, with_heir, NewInt, NewBool, NewStr, NewTuple, asks_for, with_one_at_most, int_of_class, Resumes, parts_stands, parts_job_say, text_at}
-use Rattle.std.proofs.Common.{◌≡◌, ◌∷◌, ◌++◌}
+use Rattle.std.proofs.Common.{◌≡◌, ◌∷◌}
 use Rattle.py_node.specs.declared.built_in.BuiltIn.TheVariants as built_in
 use Rattle.native_containers.proofs.NativeParts.Made.{made-so, resumes-end}
 

@@ -1,5 +1,5 @@
 -- A text stands in another just where it can be cut out of it.
-use Rattle.native_containers.proofs.Below.{ℕ, Bool, true, false, eqb, List, [], refl, sym, ap, ap₂, subst, ◌∙◌, arith, inl, inr, take, length, pointwise, HasSubslice, starts_with, and_parts, nat_tests, common_steps, stands_in}
+use Rattle.native_containers.proofs.Below.{ℕ, Bool, true, false, eqb, List, [], refl, sym, ap, ap₂, subst, arith, inl, inr, take, length, pointwise, HasSubslice, starts_with, and_parts, nat_tests, common_steps, stands_in}
 use Rattle.std.proofs.Common.{◌≡◌, ◌||◌, ◌⊎◌, ◌∷◌, ◌++◌, ◌↔◌}
 
 either_true : (p q : Bool) → (p || q) ≡ true → (p ≡ true) ⊎ (q ≡ true)

@@ -1,5 +1,5 @@
 -- A text's Python form is UTF-8.
-use Rattle.native_containers.proofs.Below.{ℕ, suc, Bool, true, false, cond, nat_lt, List, [], length, get_or, inl, inr, refl, sym, ap₂, subst, arith, append-nil, IsUtf8, flat_map, and_parts, cases_lt, nat_tests, flat_map-append, IsUtf8-append, IsUtf8-nil, IsUtf8-encode, encode_ascii, inside_one, mark, repr_byte, repr_text}
+use Rattle.native_containers.proofs.Below.{ℕ, suc, Bool, true, false, cond, List, [], length, get_or, inl, inr, refl, sym, ap₂, subst, arith, append-nil, IsUtf8, flat_map, and_parts, cases_lt, nat_tests, flat_map-append, IsUtf8-append, IsUtf8-nil, IsUtf8-encode, encode_ascii, inside_one, mark, repr_byte, repr_text}
 use Rattle.std.proofs.Common.{◌≡◌, ◌<◌, ◌≤◌, ◌∷◌, ◌++◌}
 use lib.Utf8.{scalar, scalars, encode, encodes, low_scalar}
 

@@ -1,5 +1,5 @@
 -- What the contracts of the natives say that ask for parts.
-use Rattle.native_containers.specs.Below.{List, [], drop, Option, Some, None, Result, Ok, PyObjectRef, PyStrInterned, Raised as Fault, NativeEntry, OfTuple, OfList, OfDict, OfWrapper, Answer, Number, Value, Task, Step, ToNative, Ended, Said, value, World, Reading, bindings, task_of, Claim, AreNodes, IsClass, IsNode, IsOf, Holding, number, on_value, on_number, on_truth, on_objects, as_said, end, truth, object_made, ATuple}
+use Rattle.native_containers.specs.Below.{List, [], drop, Option, Some, None, Result, Ok, PyObjectRef, PyStrInterned, Raised as Fault, NativeEntry, OfTuple, OfList, OfDict, OfWrapper, Answer, Number, Value, Task, Step, ToNative, Ended, Said, value, World, Reading, bindings, task_of, Claim, AreNodes, IsClass, IsNode, IsOf, Holding, on_value, on_number, on_truth, on_objects, as_said, end, truth, object_made, ATuple}
 use Rattle.std.specs.Prelude.{◌∷◌, ◌++◌}
 use Rattle.py_node.specs.declared.built_in.BuiltIn.TheVariants as built_in
 use Rattle.py_node.specs.declared.entry.TupleNative.TheVariants as tuple

@@ -1,5 +1,5 @@
 -- What natives make of texts.
-use Rattle.native_containers.specs.Below.{ℕ, ℤ, bit_xor, Bool, cond, eqb, length, fold, List, [], w64, cast_signed, flat_map, starts_with, chars, Text}
+use Rattle.native_containers.specs.Below.{ℕ, ℤ, bit_xor, Bool, eqb, length, fold, [], w64, cast_signed, flat_map, starts_with, chars, Text}
 use Rattle.std.specs.Prelude.{◌*◌, ◌%◌, ◌^◌, ◌==◌, ◌||◌, if◌then◌else◌, ◌∷◌, ◌++◌}
 
 -- how many characters it has

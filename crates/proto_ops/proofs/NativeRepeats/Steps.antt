@@ -1,9 +1,9 @@
 -- How a repetition by name goes on at an index.
-use Rattle.proto_ops.proofs.Below.{List, [], Option, Ok, subst, ap, ◌∙◌, ℤ, Result, NativeEntry, Raised as Fault, RepeatTooLong, PyObjectRef, Answer, Value, End, PlainWorld, Told, Row, value, within_index, datum_at, number_of, World, Reading, plain, EndsAs, repeat_stood, ends-follow}
+use Rattle.proto_ops.proofs.Below.{List, [], Option, Ok, subst, ap, ◌∙◌, ℤ, Result, NativeEntry, Raised as Fault, RepeatTooLong, PyObjectRef, Value, End, PlainWorld, Told, Row, value, within_index, datum_at, number_of, World, Reading, plain, EndsAs, repeat_stood, ends-follow}
 use Rattle.std.proofs.Common.{◌≡◌}
 use Rattle.py_node.specs.Stops.{Ended, sorted}
 use Rattle.py_node.specs.declared.stop.Stop.{Stop}
-use Rattle.proto_ops.specs.Below.{as_said}
+use Rattle.proto_ops.specs.Below.{Answer, as_said}
 use Rattle.proto_ops.specs.declared.native_repeats.RepeatKept.{RepeatKept}
 use Rattle.proto_ops.specs.NativeRepeats.Rows.{Resumes, repeat_group, repeat_stands}
 use Rattle.proto_ops.specs.NativeRepeats.Say.{entry_of}

@@ -1,5 +1,5 @@
 use Rattle.native_containers.proofs.Lemmas.{err_from_is_err_and, grows-itself, plain, stop_ends, stop-safe, tuple_made}
-use Rattle.native_containers.proofs.Below.{List, Err, PyObjectRef, PlainWorld, Said, Ends, Reading, bindings, EndsAs}
+use Rattle.native_containers.proofs.Below.{List, Err, PyObjectRef, Said, Ends, Reading, bindings, EndsAs}
 use Rattle.std.proofs.Common.{◌≡◌}
 use Rattle.native_containers.specs.Say.{with_joined}
 use Rattle.row_kit.specs.declared.take_containers.Kind.TheVariants as kind

@@ -1,4 +1,4 @@
-use Rattle.native_containers.proofs.Below.{drop, Reading, plain, AreNodes, Holds, keys_of, values_under}
+use Rattle.native_containers.proofs.Below.{Reading, plain, AreNodes, Holds, keys_of, values_under}
 use Rattle.std.proofs.Common.{◌≡◌}
 use Rattle.native_containers.proofs.NativeCompare.Values.{after, values_left}
 use Rattle.native_containers.proofs.native_compare.dicts.values_under.Given as goal

@@ -1,5 +1,5 @@
-use Rattle.native_containers.proofs.Lemmas.{◌∙◌, length, refl, sym, ap, arith, ComparedKept, left, asks-none, asks-two, left-here, none-first, none-second}
-use Rattle.std.proofs.Common.{◌≡◌, ◌<◌, ◌≤◌, ◌+◌, ◌∷◌}
+use Rattle.native_containers.proofs.Lemmas.{length, refl, arith, ComparedKept, asks-none, asks-two, left-here, none-first, none-second}
+use Rattle.std.proofs.Common.{◌<◌, ◌≤◌, ◌+◌}
 use Rattle.native_containers.proofs.native_compare.turn.ask_next.Goals as goal
 use Rattle.native_containers.proofs.native_compare.turn.ask_next.Goals.{else-next-len-via-then-next-len+else-next-len-2, else-next-len-via-else-next-len}
 

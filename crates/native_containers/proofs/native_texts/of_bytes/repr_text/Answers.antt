@@ -1,5 +1,5 @@
-use Rattle.native_containers.proofs.Lemmas.{[], sym, subst, arith, IsUtf8, common_steps, repr_text, utf8_repr}
-use Rattle.std.proofs.Common.{◌≡◌, ◌++◌, ◌∷◌}
+use Rattle.native_containers.proofs.Lemmas.{sym, subst, arith, IsUtf8, common_steps, repr_text, utf8_repr}
+use Rattle.std.proofs.Common.{◌≡◌}
 use Rattle.native_containers.proofs.native_texts.of_bytes.repr_text.Goals as goal
 
 pub string_of-requires : goal.string_of-requires

@@ -1,4 +1,4 @@
-use Rattle.native_containers.proofs.Lemmas.{ℕ, length, sym, ap, ◌∙◌, chars, Chars-Drains, encodes-chars}
+use Rattle.native_containers.proofs.Lemmas.{length, sym, ap, ◌∙◌, chars, Chars-Drains, encodes-chars}
 use Rattle.std.proofs.Common.{◌≡◌}
 use Rattle.native_containers.proofs.native_texts.of_bytes.text_length.Goals as goal
 
