@@ -13,11 +13,11 @@ pub use Rattle.native_containers.specs.NativeItems.Iterators.{found_in, item_fou
 pub use Rattle.native_containers.specs.NativeItems.Places.{place_at, put_between, slice_at}
 pub use Rattle.native_containers.specs.NativeItems.Rows.{Does, Enters, getter_of, item_group, item_stands, items_stood, made_as, next_asked, of_found, searcher_of, stood_told}
 unfoldable pub use Rattle.native_containers.specs.NativeItems.Say.{item_job_say}
-pub use Rattle.native_containers.specs.NativeParts.Makers.{asks_for, str_made, with_one_at_most}
-pub use Rattle.native_containers.specs.NativeParts.Numbers.{int_made_of, int_of_class}
-pub use Rattle.native_containers.specs.NativeParts.Rows.{Goes, IsNoNumber, IsNoObject, Resumes, Starts, left, left_to_hash, parts_group, parts_stands, repr_of, repr_of_wrapper}
-unfoldable pub use Rattle.native_containers.specs.NativeParts.Say.{parts_job_say}
-pub use Rattle.native_containers.specs.NativeParts.Texts.{before, closing, container_text, flattened, hash_row, kind_of, opening, parts_at, parts_in, repr_task, text_at, text_ends, text_row, texts_at, texts_from, wrapped_in, wrapper_by, wrapper_ends, wrapper_text}
+pub use Rattle.native_containers.specs.NativeConversions.Makers.{asks_for, str_made, with_one_at_most}
+pub use Rattle.native_containers.specs.NativeConversions.Numbers.{int_made_of, int_of_class}
+pub use Rattle.native_containers.specs.NativeConversions.Rows.{Goes, IsNoNumber, IsNoObject, Resumes, Starts, left, left_to_hash, conversion_group, conversion_stands, repr_of, repr_of_wrapper}
+unfoldable pub use Rattle.native_containers.specs.NativeConversions.Say.{conversion_job_say}
+pub use Rattle.native_containers.specs.NativeConversions.Texts.{before, closing, container_text, flattened, hash_row, kind_of, opening, parts_at, parts_in, repr_task, text_at, text_ends, text_row, texts_at, texts_from, wrapped_in, wrapper_by, wrapper_ends, wrapper_text}
 pub use Rattle.native_containers.specs.NativeTexts.Texts.{hashed_on, mark, repr_text, stands_in}
 unfoldable pub use Rattle.native_containers.specs.NativeTexts.Texts.{repr_byte}
 pub use Rattle.native_containers.specs.Say.{dict_changed, dict_filled, dict_updated, ends_none, key_taken, list_changed, names_set, unless_long, value_under}
@@ -30,13 +30,13 @@ pub use Rattle.native_containers.specs.declared.native_items.ItemKept.{ItemKept}
 pub use Rattle.native_containers.specs.declared.native_items.ItemKept.TheVariants.{Deleting, Extending, Getting, Iterating, Searching, Setting}
 pub use Rattle.native_containers.specs.declared.native_items.get.Sequence.{Sequence}
 pub use Rattle.native_containers.specs.declared.native_items.next.Found.TheVariants.{Character, Item, Nothing, Unknown}
-pub use Rattle.native_containers.specs.declared.native_parts.PartsKept.{PartsKept}
-pub use Rattle.native_containers.specs.declared.native_parts.PartsKept.TheVariants.{Hashes, NewBool, NewInt, NewStr, NewTuple, Texts, Wrapped}
-pub use Rattle.native_containers.specs.declared.native_parts.hash.Hashing.{Hashing}
-pub use Rattle.native_containers.specs.declared.native_parts.parts.Container.{Container}
-pub use Rattle.native_containers.specs.declared.native_parts.texts.Parts.{Parts}
-pub use Rattle.native_containers.specs.declared.native_parts.wrapped.Wrapper.{Wrapper}
-pub use Rattle.native_containers.specs.declared.native_parts.wrapped.Wrapper.TheVariants.{Class, Static}
+pub use Rattle.native_containers.specs.declared.native_conversions.ConversionKept.{ConversionKept}
+pub use Rattle.native_containers.specs.declared.native_conversions.ConversionKept.TheVariants.{Hashes, NewBool, NewInt, NewStr, NewTuple, Texts, Wrapped}
+pub use Rattle.native_containers.specs.declared.native_conversions.hash.Hashing.{Hashing}
+pub use Rattle.native_containers.specs.declared.native_conversions.parts.Container.{Container}
+pub use Rattle.native_containers.specs.declared.native_conversions.texts.Parts.{Parts}
+pub use Rattle.native_containers.specs.declared.native_conversions.wrapped.Wrapper.{Wrapper}
+pub use Rattle.native_containers.specs.declared.native_conversions.wrapped.Wrapper.TheVariants.{Class, Static}
 pub use Rattle.plain_machine.specs.Dicts.{Entries, has_place, is_like, put_under, with_entries, with_entry, with_value_for, with_value_in, without_value_for}
 pub use Rattle.plain_machine.specs.Plain.{AList, ANumber, AText, ATuple, Answered, AsObjects, AsTruth, Asks, Bindings, Datum, DoCollect, DoIdEq, DoIndex, DoIsTrue, DoSpecial, DoStr, DoWhole, Ended, Ends, PlainTask, PlainWorld, ReadObjects, Said, ToAttribute, ToCompare, ToNative, ToObject, ToProtocol, Told}
 pub use Rattle.plain_machine.specs.Row.{Row, end, fault, most_items, none, noting, on_number, on_value, pass, read_objects, truth, value, on_truth}

@@ -22,13 +22,13 @@ pub use Rattle.native_containers.proofs.NativeItems.Ranges.{both-nodes, found-ho
 pub use Rattle.native_containers.proofs.NativeItems.Searches.{search-begins, search-goes}
 pub use Rattle.native_containers.proofs.NativeItems.Standing.{del-asked, deleting-alike, extend-asked, extending-alike, get-asked, getting-alike, set-asked, set-part-asked, setting-alike}
 pub use Rattle.native_containers.proofs.NativeItems.Steps.{asks-does, ends-does, ends-resumes, one-enters, refused-enters, same-does-ok, three-enters, two-enters}
-pub use Rattle.native_containers.proofs.NativeParts.Asking.{drop-got, drop-none, text-asks, text-finish, text-more, text-other, text-refused, text-starts}
-pub use Rattle.native_containers.proofs.NativeParts.Contents.{flat-nodes, no-parts}
-pub use Rattle.native_containers.proofs.NativeParts.Given.{one-given, two-given}
-pub use Rattle.native_containers.proofs.NativeParts.Hashes.{hash-asks, hash-finish, hash-more, hash-other, hash-refused, hash-starts}
-pub use Rattle.native_containers.proofs.NativeParts.Heirs.{bool-alone, bool-asks, bool-said, bool-waits, int-alone, int-asks, int-new, int-none, int-said, int-same, int-waits, str-alone, str-asks, str-new, str-said, str-same, str-waits, tuple-alone, tuple-asks, tuple-said, tuple-waits}
-pub use Rattle.native_containers.proofs.NativeParts.Joined.{closed, long, part-more, short, too-long}
-pub use Rattle.native_containers.proofs.NativeParts.Made.{made-so, maker-alone, maker-asks, maker-refused, wrapper-asks, wrapper-ended, wrapper-many, wrapper-refused}
+pub use Rattle.native_containers.proofs.NativeConversions.Asking.{drop-got, drop-none, text-asks, text-finish, text-more, text-other, text-refused, text-starts}
+pub use Rattle.native_containers.proofs.NativeConversions.Contents.{flat-nodes, no-parts}
+pub use Rattle.native_containers.proofs.NativeConversions.Given.{one-given, two-given}
+pub use Rattle.native_containers.proofs.NativeConversions.Hashes.{hash-asks, hash-finish, hash-more, hash-other, hash-refused, hash-starts}
+pub use Rattle.native_containers.proofs.NativeConversions.Heirs.{bool-alone, bool-asks, bool-said, bool-waits, int-alone, int-asks, int-new, int-none, int-said, int-same, int-waits, str-alone, str-asks, str-new, str-said, str-same, str-waits, tuple-alone, tuple-asks, tuple-said, tuple-waits}
+pub use Rattle.native_containers.proofs.NativeConversions.Joined.{closed, long, part-more, short, too-long}
+pub use Rattle.native_containers.proofs.NativeConversions.Made.{made-so, maker-alone, maker-asks, maker-refused, wrapper-asks, wrapper-ended, wrapper-many, wrapper-refused}
 pub use Rattle.native_containers.proofs.NativeTexts.Inside.{inside}
 pub use Rattle.native_containers.proofs.NativeTexts.Repr.{utf8_repr}
 pub use Rattle.native_containers.proofs.Payloads.{entries-all, entry-more}
@@ -40,7 +40,7 @@ pub use Rattle.native_containers.specs.NativeItems.Items.{char_rest, chars_at, d
 pub use Rattle.native_containers.specs.NativeItems.Iterators.{found_in, iterator_in, next_by, next_from, next_in, next_item, next_place, next_rest, with_place}
 pub use Rattle.native_containers.specs.NativeItems.Places.{part, place_at, put_between, put_part}
 pub use Rattle.native_containers.specs.NativeItems.Rows.{Enters, Resumes, getter_of, items_stood, made_as, next_asked, of_item_kept, searcher_of, stood_told}
-pub use Rattle.native_containers.specs.NativeParts.Texts.{closing, flattened, hashed_on, parts_in, text_at}
+pub use Rattle.native_containers.specs.NativeConversions.Texts.{closing, flattened, hashed_on, parts_in, text_at}
 pub use Rattle.native_containers.specs.declared.native_items.ItemKept.TheVariants.{Deleting, Extending, Getting, GettingCharacter, Iterating, Searching, Setting}
 pub use Rattle.plain_machine.specs.Dicts.{Entries, entries_in, with_entries, with_entry}
 unfoldable pub use Rattle.py_node.specs.BuiltIns.{place_of}

@@ -9,4 +9,4 @@ pub mod Filled
 pub mod NativeTexts
 pub mod NativeCompare
 pub mod NativeItems
-pub mod NativeParts
+pub mod NativeConversions

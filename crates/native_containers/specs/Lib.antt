@@ -5,4 +5,4 @@ pub mod Say
 pub mod NativeTexts
 pub mod NativeCompare
 pub mod NativeItems
-pub mod NativeParts
+pub mod NativeConversions

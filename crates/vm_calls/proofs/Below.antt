@@ -20,15 +20,15 @@ pub use Rattle.native_containers.specs.NativeCompare.Containers.{both_read, by_t
 pub use Rattle.native_containers.specs.NativeItems.Items.{answered, as_stood, at_place, char_asked, char_rest, character_at, character_made, chars_at, contains, del_asked, del_item, del_rest, extend, extend_rest, get_item, is_among, is_number, item_asked, item_ends, item_got, list_del_item, list_extend, list_extended, list_get_item, list_set_item, look_for, set_asked, set_item, set_rest, stood, str_get_item, tuple_get_item}
 pub use Rattle.native_containers.specs.NativeItems.Iterators.{found_in, is_end, iterator_in, iterator_next, next_from, next_in, next_item}
 pub use Rattle.native_containers.specs.NativeItems.Places.{part, place_at, put_part, slice_at}
-pub use Rattle.native_containers.specs.NativeParts.Makers.{first, list_filled, list_init, list_init_by, list_rest, str_made, str_new, str_new_by, str_rest, tuple_new, tuple_new_by, tuple_rest, with_one_at_most}
-pub use Rattle.native_containers.specs.NativeParts.Numbers.{bool_new, bool_new_say, int_made_of, int_new, int_new_say, int_of_class, int_rest}
-pub use Rattle.native_containers.specs.NativeParts.Texts.{container_repr, container_text, hash_row, hash_task, hashed_on, parts_at, repr_task, text_at, text_ends, text_row, texts_at, tuple_hash, wrapper_by, wrapper_ends, wrapper_repr, wrapper_text}
+pub use Rattle.native_containers.specs.NativeConversions.Makers.{first, list_filled, list_init, list_init_by, list_rest, str_made, str_new, str_new_by, str_rest, tuple_new, tuple_new_by, tuple_rest, with_one_at_most}
+pub use Rattle.native_containers.specs.NativeConversions.Numbers.{bool_new, bool_new_say, int_made_of, int_new, int_new_say, int_of_class, int_rest}
+pub use Rattle.native_containers.specs.NativeConversions.Texts.{container_repr, container_text, hash_row, hash_task, hashed_on, parts_at, repr_task, text_at, text_ends, text_row, texts_at, tuple_hash, wrapper_by, wrapper_ends, wrapper_repr, wrapper_text}
 pub use Rattle.native_containers.specs.NativeTexts.Say.{add_by, compare_text_say, is_str, text_say, with_lone_text, with_own_text, with_text_and}
 pub use Rattle.native_containers.specs.NativeTexts.Texts.{repr_text, stands_in}
 pub use Rattle.native_containers.specs.Say.{dict_changed, dict_filled, dict_updated, ends_none, iterator_say, key_taken, list_changed, list_say, names_set, tuple_say, unless_long, value_under, with_joined, with_like}
 pub use Rattle.native_containers.specs.Take.{with_default, with_dict_and_key, with_key, with_lone, with_own_and, with_own_and_two}
 pub use Rattle.native_containers.specs.declared.native_compare.way.Turns.{Turns}
-pub use Rattle.native_containers.specs.declared.native_parts.parts.Container.{Container}
+pub use Rattle.native_containers.specs.declared.native_conversions.parts.Container.{Container}
 pub use Rattle.plain_machine.proofs.Follow.{reach-is}
 pub use Rattle.plain_machine.specs.Answer.{Ending, Follow, NoUnits, Out, Outcome, Over, answer, asked, carry, closing, step}
 unfoldable pub use Rattle.plain_machine.specs.Answer.{follow, reach}

@@ -6,7 +6,7 @@ unfoldable pub use Rattle.class_world.specs.Reading.{plain}
 pub use Rattle.class_world.specs.Rows.{EndsAs}
 unfoldable pub use Rattle.native_containers.specs.NativeCompare.Say.{compared_job_say}
 unfoldable pub use Rattle.native_containers.specs.NativeItems.Say.{item_job_say}
-unfoldable pub use Rattle.native_containers.specs.NativeParts.Say.{parts_job_say}
+unfoldable pub use Rattle.native_containers.specs.NativeConversions.Say.{conversion_job_say}
 pub use Rattle.plain_machine.proofs.Follow.{reach-is}
 pub use Rattle.plain_machine.specs.Answer.{NoUnits, Out, Outcome, Over, Run, answer, answering, asked, plain_run, reach, replied, step}
 pub use Rattle.plain_machine.specs.Plain.{Answered, Asks, DoEval, Ended, Ends, PlainTask, PlainWorld, Said, ToAttribute, ToCall, ToClass, ToCompare, ToDescriptor, ToEval, ToObject, ToOperator, ToProtocol, Told}
@@ -31,7 +31,7 @@ unfoldable pub use Rattle.vm_eval.specs.Say.{say, stands}
 pub use Rattle.vm_eval.specs.Stack.{Answers, AsDeep, Pending, BeginsAt, IsOnItsWay, Reaches, coming, ending_of, finish, unwind, AllWait, Waits, WaitsAt}
 unfoldable pub use Rattle.vm_eval.specs.Stack.{Comes}
 pub use Rattle.vm_eval.specs.declared.natives.NativesKept.{NativesKept}
-pub use Rattle.vm_eval.specs.declared.natives.NativesKept.TheVariants.{ForCalls, ForComparisons, ForDetails, ForParts, ForRepeats}
+pub use Rattle.vm_eval.specs.declared.natives.NativesKept.TheVariants.{ForCalls, ForComparisons, ForDetails, ForConversions, ForRepeats}
 pub use Rattle.vm_eval.specs.declared.natives.family.Family.{Family}
 pub use Rattle.vm_eval.specs.declared.protocols.Branch.{Branch}
 pub use Rattle.vm_eval.specs.declared.stack.Kept.{Kept}
@@ -52,5 +52,5 @@ pub use Rattle.proto_object.specs.ProtoNumber.Rows.{number_group}
 pub use Rattle.proto_object.specs.ProtoItems.Rows.{items_group}
 pub use Rattle.proto_object.specs.Rows.{object_group}
 pub use Rattle.native_containers.specs.NativeItems.Rows.{item_group}
-pub use Rattle.native_containers.specs.NativeParts.Rows.{parts_group}
+pub use Rattle.native_containers.specs.NativeConversions.Rows.{conversion_group}
 pub use Rattle.native_containers.specs.NativeCompare.Rows.{compared_group}

@@ -13,7 +13,7 @@ pub use Rattle.std.proofs.Common.{List, Some, [], ap, arith, length, refl, subst
 pub use Rattle.vm_eval.proofs.Commands.{command-replied}
 pub use Rattle.vm_eval.proofs.Groups.{attribute-among, begins-among, call-among, class-among, compare-among, descriptor-among, eval-among, items-among, iter-among, native-among, number-among, object-among, operator-among, resumes-among}
 pub use Rattle.row_kit.proofs.Ended.{sorted_ends}
-pub use Rattle.vm_eval.proofs.OfNatives.Families.{calls-family, comparisons-family, details-family, family-begins, family-resumes, items-family, parts-family, plain-begins, repeats-family}
+pub use Rattle.vm_eval.proofs.OfNatives.Families.{calls-family, comparisons-family, details-family, family-begins, family-resumes, items-family, conversions-family, plain-begins, repeats-family}
 pub use Rattle.vm_eval.proofs.Rests.{none-held, none-read, quiet-held, quiet-read, rest-grows, still-none}
 pub use Rattle.vm_eval.proofs.Turns.{asked-begins, asked-limited, began, no-frames, over, resumed, spent, state-first}
 pub use Rattle.vm_eval.specs.Asks.{ending_in, unnoted}

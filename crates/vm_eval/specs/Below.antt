@@ -26,8 +26,8 @@ pub use Rattle.native_containers.specs.NativeCompare.Rows.{compared_stands, of_c
 pub use Rattle.native_containers.specs.NativeCompare.Say.{compare_native_say}
 pub use Rattle.native_containers.specs.NativeItems.Rows.{item_stands, of_item_kept}
 pub use Rattle.native_containers.specs.NativeItems.Say.{items_native_say}
-pub use Rattle.native_containers.specs.NativeParts.Rows.{of_parts_kept, parts_stands}
-pub use Rattle.native_containers.specs.NativeParts.Say.{parts_native_say}
+pub use Rattle.native_containers.specs.NativeConversions.Rows.{of_conversion_kept, conversion_stands}
+pub use Rattle.native_containers.specs.NativeConversions.Say.{conversion_native_say}
 pub use Rattle.native_containers.specs.NativeTexts.Say.{compare_text_say, text_say}
 pub use Rattle.native_containers.specs.Say.{dict_say, iterator_say, list_say, tuple_say}
 pub use Rattle.plain_machine.specs.Answer.{Ending, NoUnits, Out, Outcome, Over, Run, answer, answering, asked, carry, plain_run, reach, replied}

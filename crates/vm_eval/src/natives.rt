@@ -1,7 +1,7 @@
 //! The natives that stand in no group of tasks, by what they ask. Each is a small automaton: `begin` and `resume`.
 #![tactic(auto)]
 
-ghost use Rattle.vm_eval.specs.Below.{IfOk, of_args, of_ended, of_step, Leaves, AllHold, of_native_kept, of_compared_kept, of_detail_kept, of_item_kept, of_parts_kept, of_repeat_kept};
+ghost use Rattle.vm_eval.specs.Below.{IfOk, of_args, of_ended, of_step, Leaves, AllHold, of_native_kept, of_compared_kept, of_detail_kept, of_item_kept, of_conversion_kept, of_repeat_kept};
 ghost use Rattle.std.specs.Prelude.{◌≡◌};
 ghost use Rattle.vm_eval.specs.OfNatives.Rows.{Begins, Resumes, kept_among, of_natives_kept};
 
@@ -9,8 +9,8 @@ use crate::natives::family::{Family, family_of};
 use crate::natives::plain::plain_native;
 use class_world::World;
 use native_containers::native_compare::ComparedKept;
+use native_containers::native_conversions::ConversionKept;
 use native_containers::native_items::ItemKept;
-use native_containers::native_parts::PartsKept;
 use proto_attr::native_calls::NativeKept;
 use proto_attr::native_details::DetailKept;
 use proto_ops::native_repeats::RepeatKept;
@@ -24,7 +24,7 @@ mod plain;
 #[derive(Drop)]
 pub enum NativesKept {
     ForItems(ItemKept),
-    ForParts(PartsKept),
+    ForConversions(ConversionKept),
     ForComparisons(ComparedKept),
     ForRepeats(RepeatKept),
     ForDetails(DetailKept),
@@ -47,9 +47,9 @@ pub fn begin(
             let step = native_containers::native_items::begin(world, entry, args, kw)?;
             Ok(of_items(step))
         }
-        Family::Parts => {
-            let step = native_containers::native_parts::begin(world, entry, args, kw)?;
-            Ok(of_parts(step))
+        Family::Conversions => {
+            let step = native_containers::native_conversions::begin(world, entry, args, kw)?;
+            Ok(of_conversions(step))
         }
         Family::Comparisons => {
             let step = native_containers::native_compare::begin(world, entry, args, kw)?;
@@ -97,9 +97,9 @@ pub fn resume(
             let step = native_containers::native_items::resume(world, kept, answer)?;
             Ok(of_items(step))
         }
-        NativesKept::ForParts(kept) => {
-            let step = native_containers::native_parts::resume(world, kept, answer)?;
-            Ok(of_parts(step))
+        NativesKept::ForConversions(kept) => {
+            let step = native_containers::native_conversions::resume(world, kept, answer)?;
+            Ok(of_conversions(step))
         }
         NativesKept::ForComparisons(kept) => {
             let step = native_containers::native_compare::resume(world, kept, answer)?;
@@ -132,12 +132,12 @@ fn of_items(step: Step<ItemKept>) -> Step<NativesKept>
 }
 
 // A step of a native on parts, among all steps.
-fn of_parts(step: Step<PartsKept>) -> Step<NativesKept>
-    ensures step { result ≡ kept_among NativesKept.ForParts step }
-    ensures says { of_step of_natives_kept result ≡ of_step of_parts_kept step }
+fn of_conversions(step: Step<ConversionKept>) -> Step<NativesKept>
+    ensures step { result ≡ kept_among NativesKept.ForConversions step }
+    ensures says { of_step of_natives_kept result ≡ of_step of_conversion_kept step }
 {
     match step {
-        Step::Ask(task, kept) => Step::Ask(task, NativesKept::ForParts(kept)),
+        Step::Ask(task, kept) => Step::Ask(task, NativesKept::ForConversions(kept)),
         Step::End(answer) => Step::End(answer),
     }
 }

@@ -7,11 +7,11 @@ use Rattle.py_node.specs.declared.known.Known.TheVariants as known
 use Rattle.row_kit.specs.TakeContainers.{is_of as is_container}
 use Rattle.row_kit.specs.declared.take_containers.Kind.{Kind as Container}
 use Rattle.row_kit.specs.declared.take_containers.Kind.TheVariants as kind
-use Rattle.native_containers.specs.declared.native_parts.wrapped.Wrapper.{Wrapper}
+use Rattle.native_containers.specs.declared.native_conversions.wrapped.Wrapper.{Wrapper}
 use Rattle.native_containers.specs.declared.native_compare.way.Way.{Way}
 use Rattle.native_containers.specs.declared.native_compare.way.Way.TheVariants as way
 use Rattle.native_containers.specs.declared.native_compare.way.Turns.TheVariants as turn
-use Rattle.native_containers.specs.NativeParts.Texts.{kind_of as shown_kind, wrapped_in}
+use Rattle.native_containers.specs.NativeConversions.Texts.{kind_of as shown_kind, wrapped_in}
 use Rattle.native_containers.specs.NativeCompare.Containers.{answered as way_answered, in_turn as pairs_in_turn, asked as way_asked}
 use Rattle.proto_attr.specs.NativeDetails.Say.{listed, joined, abstract_by, is_abstract}
 use Rattle.vm_calls.specs.AnswerKinds.Kinds as kinds

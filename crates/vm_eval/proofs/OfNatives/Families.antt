@@ -1,5 +1,5 @@
 -- What a family of natives says is what they say among all.
-use Rattle.vm_eval.proofs.Below.{◌∙◌, [], refl, sym, ap, subst, Result, Raised as Fault, NativeEntry, Answer, Task, Step, End, PlainWorld, Ended, Told, World, Reading, bindings, plain, EndsAs, item_group, item_job_say, parts_group, parts_job_say, compared_group, compared_job_say, repeat_group, repeat_job_say, detail_group, detail_job_say, native_group, asking_job_say, Family, NativesKept, ForParts, ForComparisons, ForRepeats, ForDetails, ForCalls, by_family, family_of, native_by, native_job_say, kept_among, native_job, natives_group, natives_stands, Group, ended_of, ends-follow, goes-among, read-follows}
+use Rattle.vm_eval.proofs.Below.{◌∙◌, [], refl, sym, ap, subst, Result, Raised as Fault, NativeEntry, Answer, Task, Step, End, PlainWorld, Ended, Told, World, Reading, bindings, plain, EndsAs, item_group, item_job_say, conversion_group, conversion_job_say, compared_group, compared_job_say, repeat_group, repeat_job_say, detail_group, detail_job_say, native_group, asking_job_say, Family, NativesKept, ForConversions, ForComparisons, ForRepeats, ForDetails, ForCalls, by_family, family_of, native_by, native_job_say, kept_among, native_job, natives_group, natives_stands, Group, ended_of, ends-follow, goes-among, read-follows}
 use Rattle.std.proofs.Common.{◌≡◌}
 use Rattle.std.specs.Prelude.{List}
 use Rattle.py_node.specs.declared.refs.PyObjectRef.{PyObjectRef}
@@ -36,9 +36,9 @@ pub items-family : AmongNatives family.Items item_group ForItems
 unfolding item_job_say
 items-family = record { says = λ t n args kw u more. refl; keeps = λ t k r u more. refl }
 
-pub parts-family : AmongNatives family.Parts parts_group ForParts
-unfolding parts_job_say
-parts-family = record { says = λ t n args kw u more. refl; keeps = λ t k r u more. refl }
+pub conversions-family : AmongNatives family.Conversions conversion_group ForConversions
+unfolding conversion_job_say
+conversions-family = record { says = λ t n args kw u more. refl; keeps = λ t k r u more. refl }
 
 pub comparisons-family : AmongNatives family.Comparisons compared_group ForComparisons
 unfolding compared_job_say

@@ -1,15 +1,15 @@
 -- What the contracts of natives say.
-use Rattle.vm_eval.specs.Below.{List, Result, PyObjectRef, PyStrInterned, Raised as Fault, NativeEntry, Answer, Step, Ended, World, Reading, bindings, Claim, asking_stands, of_native_kept, item_stands, of_item_kept, parts_stands, of_parts_kept, compared_stands, of_compared_kept, repeat_stands, of_repeat_kept, detail_stands, of_detail_kept}
+use Rattle.vm_eval.specs.Below.{List, Result, PyObjectRef, PyStrInterned, Raised as Fault, NativeEntry, Answer, Step, Ended, World, Reading, bindings, Claim, asking_stands, of_native_kept, item_stands, of_item_kept, conversion_stands, of_conversion_kept, compared_stands, of_compared_kept, repeat_stands, of_repeat_kept, detail_stands, of_detail_kept}
 use Rattle.row_kit.specs.Points as points
 use Rattle.row_kit.specs.Points.{Group, Point, among}
 use Rattle.vm_eval.specs.declared.natives.NativesKept.{NativesKept}
-use Rattle.vm_eval.specs.declared.natives.NativesKept.TheVariants.{ForItems, ForParts, ForComparisons, ForRepeats, ForDetails, ForCalls}
+use Rattle.vm_eval.specs.declared.natives.NativesKept.TheVariants.{ForItems, ForConversions, ForComparisons, ForRepeats, ForDetails, ForCalls}
 use Rattle.vm_eval.specs.OfNatives.Say.{NativeJob, native_job_say}
 
 -- what is done with the answer where this is kept
 abbrev pub natives_stands : Reading → NativesKept → Ended → Point
 natives_stands t (ForItems kept) = item_stands t kept
-natives_stands t (ForParts kept) = parts_stands t kept
+natives_stands t (ForConversions kept) = conversion_stands t kept
 natives_stands t (ForComparisons kept) = compared_stands t kept
 natives_stands t (ForRepeats kept) = repeat_stands t kept
 natives_stands t (ForDetails kept) = detail_stands t kept
@@ -18,7 +18,7 @@ natives_stands t (ForCalls kept) = asking_stands t kept
 -- what is said of what is kept
 abbrev pub of_natives_kept : NativesKept → List Claim
 of_natives_kept (ForItems kept) = of_item_kept kept
-of_natives_kept (ForParts kept) = of_parts_kept kept
+of_natives_kept (ForConversions kept) = of_conversion_kept kept
 of_natives_kept (ForComparisons kept) = of_compared_kept kept
 of_natives_kept (ForRepeats kept) = of_repeat_kept kept
 of_natives_kept (ForDetails kept) = of_detail_kept kept

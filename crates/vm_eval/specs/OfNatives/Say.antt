@@ -1,5 +1,5 @@
 -- What natives say that stand in no group of tasks.
-use Rattle.vm_eval.specs.Below.{List, PyObjectRef, Int, Str, NativeEntry, OfFixed, OfNumber, OfArithmetic, OfBits, OfStr, Compare, NewWrapper, OfTuple, OfList, OfDict, OfIterator, OfCallable, OfDescriptor, OfProperty, OfWrapper, OfSuper, NewOf, Getter, Setter, GetterOf, SetterOf, PlainWorld, Bindings, Said, Ends, Row, end, elsewhere, items_native_say, parts_native_say, compare_native_say, repeat_native_say, tuple_say, list_say, dict_say, iterator_say, fixed_say, number_say, arithmetic_say, bits_say, compare_say, text_say, compare_text_say, callable_say, descriptor_native_say, property_say, wrapper_say, super_say, maker_say, getter_say, setter_say, setter_of_say, getter_of_say, asking_say, details_native_say}
+use Rattle.vm_eval.specs.Below.{List, PyObjectRef, Int, Str, NativeEntry, OfFixed, OfNumber, OfArithmetic, OfBits, OfStr, Compare, NewWrapper, OfTuple, OfList, OfDict, OfIterator, OfCallable, OfDescriptor, OfProperty, OfWrapper, OfSuper, NewOf, Getter, Setter, GetterOf, SetterOf, PlainWorld, Bindings, Said, Ends, Row, end, elsewhere, items_native_say, conversion_native_say, compare_native_say, repeat_native_say, tuple_say, list_say, dict_say, iterator_say, fixed_say, number_say, arithmetic_say, bits_say, compare_say, text_say, compare_text_say, callable_say, descriptor_native_say, property_say, wrapper_say, super_say, maker_say, getter_say, setter_say, setter_of_say, getter_of_say, asking_say, details_native_say}
 use Rattle.py_node.specs.declared.built_in.BuiltIn.TheVariants as built_in
 use Rattle.py_node.specs.declared.entry.CallableNative.TheVariants as callable
 use Rattle.py_node.specs.declared.entry.DescriptorNative.TheVariants as descriptor
@@ -48,8 +48,8 @@ family_of (OfStr str.Multiply) = family.Repeats
 family_of (OfStr str.RightMultiply) = family.Repeats
 family_of (OfTuple tuple.GetItem) = family.Items
 family_of (OfTuple tuple.Contains) = family.Items
-family_of (OfTuple tuple.Repr) = family.Parts
-family_of (OfTuple tuple.Hash) = family.Parts
+family_of (OfTuple tuple.Repr) = family.Conversions
+family_of (OfTuple tuple.Hash) = family.Conversions
 family_of (OfTuple tuple.Multiply) = family.Repeats
 family_of (OfTuple tuple.RightMultiply) = family.Repeats
 family_of (OfList list.GetItem) = family.Items
@@ -57,12 +57,12 @@ family_of (OfList list.SetItem) = family.Items
 family_of (OfList list.DelItem) = family.Items
 family_of (OfList list.Contains) = family.Items
 family_of (OfList list.InplaceAdd) = family.Items
-family_of (OfList list.Init) = family.Parts
-family_of (OfList list.Repr) = family.Parts
+family_of (OfList list.Init) = family.Conversions
+family_of (OfList list.Repr) = family.Conversions
 family_of (OfList list.Multiply) = family.Repeats
 family_of (OfList list.RightMultiply) = family.Repeats
 family_of (OfList list.InplaceMultiply) = family.Repeats
-family_of (OfDict dict.Repr) = family.Parts
+family_of (OfDict dict.Repr) = family.Conversions
 family_of (OfIterator iterator.Next) = family.Items
 family_of (Compare built_in.Tuple n) = family.Comparisons
 family_of (Compare built_in.List n) = family.Comparisons
@@ -84,12 +84,12 @@ family_of (OfSuper super.Get) = family.Calls
 family_of (OfWrapper wrapper.ClassGet) = family.Calls
 family_of (OfWrapper wrapper.StaticGet) = family.Calls
 family_of (OfWrapper wrapper.StaticCall) = family.Calls
-family_of (OfWrapper wrapper.ClassRepr) = family.Parts
-family_of (OfWrapper wrapper.StaticRepr) = family.Parts
-family_of (NewOf built_in.Int) = family.Parts
-family_of (NewOf built_in.Bool) = family.Parts
-family_of (NewOf built_in.Str) = family.Parts
-family_of (NewOf built_in.Tuple) = family.Parts
+family_of (OfWrapper wrapper.ClassRepr) = family.Conversions
+family_of (OfWrapper wrapper.StaticRepr) = family.Conversions
+family_of (NewOf built_in.Int) = family.Conversions
+family_of (NewOf built_in.Bool) = family.Conversions
+family_of (NewOf built_in.Str) = family.Conversions
+family_of (NewOf built_in.Tuple) = family.Conversions
 family_of (NewOf built_in.ClassMethod) = family.Calls
 family_of (NewOf built_in.StaticMethod) = family.Calls
 family_of NewWrapper = family.Calls
@@ -110,7 +110,7 @@ family_of _ = family.Plain
 
 abbrev pub by_family : PlainWorld → Family → NativeEntry → List PyObjectRef → Bindings → Row
 by_family w family.Items n args kw = items_native_say w n args kw
-by_family w family.Parts n args kw = parts_native_say w n args kw
+by_family w family.Conversions n args kw = conversion_native_say w n args kw
 by_family w family.Comparisons n args kw = compare_native_say w n args kw
 by_family w family.Repeats n args kw = repeat_native_say w n args kw
 by_family w family.Details n args kw = details_native_say w n args kw

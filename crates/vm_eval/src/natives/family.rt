@@ -13,8 +13,8 @@ use py_node::{
 pub enum Family {
     /// Items of texts, tuples, lists and iterators.
     Items,
-    /// The hashes, texts, numbers and items of parts.
-    Parts,
+    /// The texts and hashes of parts, and what is made of another object.
+    Conversions,
     /// Comparisons of items.
     Comparisons,
     /// How often something is repeated.
@@ -35,7 +35,7 @@ pub(crate) fn family_of(entry: NativeEntry) -> Family
         NativeEntry::OfStr(StrNative::GetItem) => Family::Items,
         NativeEntry::OfStr(StrNative::Multiply | StrNative::RightMultiply) => Family::Repeats,
         NativeEntry::OfTuple(TupleNative::GetItem | TupleNative::Contains) => Family::Items,
-        NativeEntry::OfTuple(TupleNative::Repr | TupleNative::Hash) => Family::Parts,
+        NativeEntry::OfTuple(TupleNative::Repr | TupleNative::Hash) => Family::Conversions,
         NativeEntry::OfTuple(TupleNative::Multiply | TupleNative::RightMultiply) => Family::Repeats,
         NativeEntry::OfList(
             ListNative::GetItem
@@ -44,11 +44,11 @@ pub(crate) fn family_of(entry: NativeEntry) -> Family
             | ListNative::Contains
             | ListNative::InplaceAdd,
         ) => Family::Items,
-        NativeEntry::OfList(ListNative::Init | ListNative::Repr) => Family::Parts,
+        NativeEntry::OfList(ListNative::Init | ListNative::Repr) => Family::Conversions,
         NativeEntry::OfList(
             ListNative::Multiply | ListNative::RightMultiply | ListNative::InplaceMultiply,
         ) => Family::Repeats,
-        NativeEntry::OfDict(DictNative::Repr) => Family::Parts,
+        NativeEntry::OfDict(DictNative::Repr) => Family::Conversions,
         NativeEntry::OfIterator(IteratorNative::Next) => Family::Items,
         NativeEntry::Compare(BuiltIn::Tuple | BuiltIn::List | BuiltIn::Dict, _) => {
             Family::Comparisons
@@ -73,10 +73,10 @@ pub(crate) fn family_of(entry: NativeEntry) -> Family
             WrapperNative::ClassGet | WrapperNative::StaticGet | WrapperNative::StaticCall,
         ) => Family::Calls,
         NativeEntry::OfWrapper(WrapperNative::ClassRepr | WrapperNative::StaticRepr) => {
-            Family::Parts
+            Family::Conversions
         }
         NativeEntry::NewOf(BuiltIn::Int | BuiltIn::Bool | BuiltIn::Str | BuiltIn::Tuple) => {
-            Family::Parts
+            Family::Conversions
         }
         NativeEntry::NewOf(BuiltIn::ClassMethod | BuiltIn::StaticMethod) => Family::Calls,
         NativeEntry::NewWrapper => Family::Calls,

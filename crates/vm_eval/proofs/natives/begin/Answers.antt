@@ -1,4 +1,4 @@
-use Rattle.vm_eval.proofs.Lemmas.{◌∙◌, sym, family-begins, plain-begins, sorted_ends, items-family, parts-family, comparisons-family, repeats-family, details-family, calls-family}
+use Rattle.vm_eval.proofs.Lemmas.{◌∙◌, sym, family-begins, plain-begins, sorted_ends, items-family, conversions-family, comparisons-family, repeats-family, details-family, calls-family}
 use Rattle.py_node.specs.declared.task.Task.TheVariants as task
 use Rattle.vm_eval.proofs.natives.begin.Goals as goal
 
@@ -12,7 +12,7 @@ pub returns-in_ok-step-in-Parts-clause-goes : goal.returns-in_ok-step-in-Parts-c
 returns-in_ok-step-in-Parts-clause-goes c =
     let a = c.args in
     let step = c.in_ok-step-in-Parts in
-    family-begins parts-family a.entry a.args a.kw _ _ step.step c.of_parts.result (sym c.family_of.ensures ∙ c.in-Parts.is) c.of_parts.ensures.step step.ensures.goes
+    family-begins conversions-family a.entry a.args a.kw _ _ step.step c.of_conversions.result (sym c.family_of.ensures ∙ c.in-Parts.is) c.of_conversions.ensures.step step.ensures.goes
 
 pub returns-in_ok-step-in-Comparisons-clause-goes : goal.returns-in_ok-step-in-Comparisons-clause-goes
 returns-in_ok-step-in-Comparisons-clause-goes c =

@@ -1,4 +1,4 @@
-use Rattle.vm_eval.proofs.Lemmas.{family-resumes, items-family, parts-family, comparisons-family, repeats-family, details-family, calls-family}
+use Rattle.vm_eval.proofs.Lemmas.{family-resumes, items-family, conversions-family, comparisons-family, repeats-family, details-family, calls-family}
 use Rattle.vm_eval.proofs.natives.resume.Goals as goal
 
 pub returns-in_ok-step-in-ForItems-clause-goes : goal.returns-in_ok-step-in-ForItems-clause-goes
@@ -6,10 +6,10 @@ returns-in_ok-step-in-ForItems-clause-goes c =
     let step = c.in_ok-step-in-ForItems in
     family-resumes items-family c.args.kept c.in-ForItems.kept c.args.answer _ _ step.step c.of_items.result c.in-ForItems.is c.of_items.ensures.step step.ensures.goes
 
-pub returns-in_ok-step-in-ForParts-clause-goes : goal.returns-in_ok-step-in-ForParts-clause-goes
-returns-in_ok-step-in-ForParts-clause-goes c =
-    let step = c.in_ok-step-in-ForParts in
-    family-resumes parts-family c.args.kept c.in-ForParts.kept c.args.answer _ _ step.step c.of_parts.result c.in-ForParts.is c.of_parts.ensures.step step.ensures.goes
+pub returns-in_ok-step-in-ForConversions-clause-goes : goal.returns-in_ok-step-in-ForConversions-clause-goes
+returns-in_ok-step-in-ForConversions-clause-goes c =
+    let step = c.in_ok-step-in-ForConversions in
+    family-resumes conversions-family c.args.kept c.in-ForConversions.kept c.args.answer _ _ step.step c.of_conversions.result c.in-ForConversions.is c.of_conversions.ensures.step step.ensures.goes
 
 pub returns-in_ok-step-in-ForComparisons-clause-goes : goal.returns-in_ok-step-in-ForComparisons-clause-goes
 returns-in_ok-step-in-ForComparisons-clause-goes c =

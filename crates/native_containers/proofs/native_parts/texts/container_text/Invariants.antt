@@ -1,6 +1,0 @@
-use Rattle.native_containers.proofs.Below.{string_bytes, Reading, plain}
-use Rattle.native_containers.proofs.NativeParts.Joined.{UpTo}
-use Rattle.native_containers.proofs.native_parts.texts.container_text.Given as goal
-
-abbrev pub invariant-loop-i : goal.invariant-loop-i
-invariant-loop-i l = (t : Reading) → UpTo (plain t l.world) l.container l.texts (string_bytes l.text) l.i
