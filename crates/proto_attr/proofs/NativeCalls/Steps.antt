@@ -17,7 +17,7 @@ passed-resumes k f r old new (Ask asked kept) h = asks-follow native_group (λ t
 passed-resumes k f r old new (End s) h = ends-follow native_group (λ t. asking_stands t (AfterGet k f) (ended_of r)) (λ t w. class_method_by w k f (ended_of r)) old new s h
 
 -- a `super` that goes on with its class and the object, given where it starts
-pub super-resumes : (c : PyTypeRef) (o : PyObjectRef) (r : Result Answer Fault) (old new : World) (s : Result Answer Fault) → descriptors.EndsAs (λ t w. super_bound w (ref c.0) o (ended_of r)) old new s → Resumes (Binding c o) r old new (End s)
+pub super-resumes : (c : PyTypeRef) (o : PyObjectRef) (r : Result Answer Fault) (old new : World) (s : Result Answer Fault) → descriptors.EndsSaid (λ t w. super_bound w (ref c.0) o (ended_of r)) old new s → Resumes (Binding c o) r old new (End s)
 super-resumes c o r old new s h =
     let said = λ (t : Reading). λ (w : PlainWorld). super_bound w (ref c.0) o (ended_of r) in
     ends-follow native_group (λ t. asking_stands t (Binding c o) (ended_of r)) said old new s (descriptor-ends said old new s h)
@@ -28,7 +28,7 @@ told-resumes r old new s h = ends-follow native_group (λ t. asking_stands t Pas
 
 -- what is said is what is said of what it takes
 
-pub taken-descriptor : (said other : Reading → PlainWorld → Said) (old new : World) (r : Result Answer Stop) → ((t : Reading) → said t (plain t old) ≡ other t (plain t old)) → Stopped r (descriptors.EndsAs other old new) → Stopped r (EndsAs said old new)
+pub taken-descriptor : (said other : Reading → PlainWorld → Said) (old new : World) (r : Result Answer Stop) → ((t : Reading) → said t (plain t old) ≡ other t (plain t old)) → Stopped r (descriptors.EndsSaid other old new) → Stopped r (EndsAs said old new)
 taken-descriptor said other old new (Ok x) same h = λ t q.
     let e = descriptor-ends other old new (Ok x) h t q in (e.0, same t ∙ e.1)
 taken-descriptor said other old new (Err (stop.Raised x)) same h = λ t q.

@@ -11,7 +11,7 @@ ends-so (Asks w learnt task) r new h = absurd h
 ends-so (Ends w s) r new h = ap₂ (λ (u : PlainWorld) (e : Ended). Ends u e) (sym h.1) (sym h.0)
 
 -- what a descriptor's row ends with, a native ends with
-pub descriptor-ends : (said : Reading → PlainWorld → Said) (old new : World) (r : Result Answer Fault) → EndsSaid said old new r → rows.EndsSaid said old new r
+pub descriptor-ends : (said : Reading → PlainWorld → Said) (old new : World) (r : Result Answer Fault) → EndsSaid said old new r → rows.EndsAs said old new r
 descriptor-ends said old new r h = λ t reads.
     let e = h t reads in (e.0, ends-so (said t (plain t old)) r (plain t new) e.1)
 
@@ -32,7 +32,7 @@ passed-resumes k f r old new (Ask asked kept) h = asks-follow descriptor_group (
 passed-resumes k f r old new (End s) h = ends-follow descriptor_group (λ t. descriptor_group.stands t (AfterGet k f) (ended_of r)) (λ t w. class_method_by w k f (ended_of r)) old new s h
 
 -- and one that goes on where nothing is kept, and ends as it was told
-pub told-row : (r : Result Answer Fault) (old new : World) (s : Result Answer Fault) → rows.EndsSaid (λ t u. named_end u (ended_of r) []) old new s → Resumes Pass r old new (End s)
+pub told-row : (r : Result Answer Fault) (old new : World) (s : Result Answer Fault) → rows.EndsAs (λ t u. named_end u (ended_of r) []) old new s → Resumes Pass r old new (End s)
 told-row r old new s h = ends-follow descriptor_group (λ t. descriptor_group.stands t Pass (ended_of r)) (λ t u. named_end u (ended_of r) []) old new s h
 
 -- a row that sets: it begins with such a step, and then is done
