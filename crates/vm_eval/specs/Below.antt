@@ -87,6 +87,7 @@ pub use Rattle.py_node.specs.declared.entry.NativeEntry.TheVariants.{Compare, Ge
 pub use Rattle.py_node.specs.declared.expr.Command.{Command}
 pub use Rattle.py_node.specs.declared.memory.OutOfMemory.{OutOfMemory}
 pub use Rattle.py_node.specs.declared.raised.Cause.{Cause}
+pub use Rattle.py_node.specs.declared.raised.Cause.TheVariants.{DepthLimit}
 pub use Rattle.py_node.specs.declared.raised.Raised.{Raised}
 pub use Rattle.py_node.specs.declared.refs.PyObjectRef.{PyObjectRef}
 pub use Rattle.py_node.specs.declared.refs.PyStrInterned.{PyStrInterned}

@@ -1,7 +1,6 @@
 -- What a task comes to on the stack of frames, in the terms of the plain machine.
-use Rattle.vm_eval.specs.Below.{ℕ, List, [], length, Ok, Result, Raised as Fault, Answer, Task, Step, Ask, End, Ending, Over, NoUnits, Out, reach, answer, World, Held, Reading, Reads, plain, task_of, ended_of, Claim, LeavesOpen, of_ended, fault}
+use Rattle.vm_eval.specs.Below.{ℕ, List, [], length, Ok, Result, Raised as Fault, Answer, Task, Step, Ask, End, Ending, Over, NoUnits, Out, reach, answer, World, Held, Reading, Reads, plain, task_of, ended_of, Claim, LeavesOpen, of_ended, fault, DepthLimit}
 use Rattle.std.specs.Prelude.{◌≡◌, ◌<◌, ◌≤◌, ◌∷◌, ◌++◌}
-use Rattle.py_node.specs.declared.raised.Cause.TheVariants.{DepthLimit}
 use Rattle.vm_eval.specs.declared.stack.Kept.{Kept}
 use Rattle.vm_eval.specs.declared.stack.End.{End as CodeEnd}
 use Rattle.vm_eval.specs.declared.stack.End.TheVariants as code
