@@ -22,7 +22,6 @@ unwind-no_units depth [] w left = refl
 unwind-no_units depth (p ∷ ps) w left = ap (finish p depth) (unwind-no_units (suc depth) ps w left)
 
 -- each frame has its row
-
 rows-length : (t : Reading) (stack : List Kept) (ps : List Pending) → AllWait t stack ps → length ps ≡ length stack
 rows-length t [] [] h = refl
 rows-length t (kept ∷ stack) (p ∷ ps) h = ap suc (rows-length t stack ps h.1)
@@ -44,7 +43,6 @@ rows-pop t (other ∷ stack) (p ∷ ps) kept h =
     let k = rows-pop t stack ps kept h.1 in (p ∷ k.0, k.1, ap (λ qs. p ∷ qs) k.2, (h.0, k.3), k.4)
 
 -- what follows from a row's words is what follows from the code's step
-
 abbrev learnt_in : Said → Told
 learnt_in (Asks w learnt other) = learnt
 learnt_in (Ends w r) = []
@@ -138,7 +136,7 @@ module _ (depth : ℕ) (task : Task) where
         ap (λ b. cond b (reach say now (task_of t task) [] left depth) (Out now (Over (fault DepthLimit)) left)) (le-ltb _ _ above),
   )
 
-  -- at a depth where the step is one or the other
+  -- the first step at so great a depth is the one or the other
   first-above : (old new : World) (next : Step Kept) → IsFirstAbove depth task old new next → BeginsAt depth task old new next × LeavesOpen of_kept bodies_in 0 old new (Ok next)
   first-above old new next h = by-depth (nat_lt depth 1000) refl
     where
@@ -151,7 +149,7 @@ module _ (depth : ℕ) (task : Task) where
           (subst (λ new. BeginsAt depth task old new (End (fault DepthLimit)) × LeavesOpen of_kept bodies_in 0 old new (Ok (End (fault DepthLimit)))) (sym limited.1)
           (asked-limited old above, (same-lasts old old refl refl refl refl refl, (tt, omega arith))))
 
-  -- the first step of the task is the one at this depth
+  -- where the depth allows it, the task's first step is this one
   pub comes-above : {E : Type 0} (old new : World) (below stack : List Kept) (o : Result Next E) → depth < 1000 → IfOk o (λ to. Comes (IsFirst task old new) below stack to) → IfOk o (λ to. Comes (IsFirstAbove depth task old new) below stack to)
   comes-above old new below stack (Ok to) low h = (h.0, ((λ less. h.1), (λ above. absurd (omega (arith, low, above)))), h.2)
   comes-above old new below stack (Err e) low h = tt
@@ -292,8 +290,8 @@ module _ (task : Task) (first : World) (units : ℕ) where
       let same = ap length q.2 in
       let longer = length-append q.0 (q.1 ∷ []) in
       let deep : length stack ≡ suc (length q.0) = omega (arith, same, longer) in
-      let above = first-above (length stack) asked w new h.0 h.1 in
-      (h.0, stack, h.2, subst (λ ks. IsOnItsWay task first units new ks rest h.0) (sym q.2) (began task first units w new q.0 asked q.1 left rest (length stack) h.0 more deep q.3 above.0 above.1))
+      let begun = first-above (length stack) asked w new h.0 h.1 in
+      (h.0, stack, h.2, subst (λ ks. IsOnItsWay task first units new ks rest h.0) (sym q.2) (began task first units w new q.0 asked q.1 left rest (length stack) h.0 more deep q.3 begun.0 begun.1))
 
   -- what is asked is all there
   pub asked-holds : (w : World) (stack : List Kept) (left : ℕ) (asked : Task) → IsUnderWay task first units w stack left (next.Ask asked) → AllHold w (of_task asked)
