@@ -1,14 +1,14 @@
-//! Another name and other bases for a class of a world.
+//! What changes of a class that a script made: its name, its bases, and its own attributes.
 
-ghost use Rattle.class_world.specs.Below.{[], true, length, OnOk, OnErr, IsSome, with_bases, class_at as class_numbered, is_heap_at, descendants, numbers, WithMemory, line_places, refused_change, refused_rebase, told, IsToldFirst, SetBases, SetName, apply};
-ghost use Rattle.std.specs.Prelude.{◌≡◌, ◌+◌, ◌*◌, ◌≤◌, ◌++◌, ◌∷◌};
+ghost use Rattle.class_world.specs.Below.{[], true, length, OnOk, OnErr, IsSome, with_bases, class_at as class_numbered, is_heap_at, descendants, numbers, WithMemory, line_places, refused_change, refused_rebase, told, IsToldFirst, SetBases, SetName, apply, IfOk, refusal, refused_attr, NamesNoClass, SetOwn, with_own_attr, false, is_some, Ok, own_of, DelOwn, without_own_attr, is_text};
+ghost use Rattle.std.specs.Prelude.{◌≡◌, ◌+◌, ◌*◌, ◌≤◌, ◌++◌, ◌∷◌, ◌<◌};
 ghost use Rattle.class_table.specs.ClassLog.Change.{SetBases as SetBasesChange};
 ghost use Rattle.class_world.specs.Reading.{Reading, Reads, plain};
-ghost use Rattle.class_world.specs.Sound.{IsClass, Holds, AllHold, Grows, of_class_ref, of_each};
+ghost use Rattle.class_world.specs.Sound.{IsClass, Holds, AllHold, Grows, of_class_ref, of_each, IsNode, IsName};
 
 use crate::world::World;
 use class_table::{ClassFault, Steps};
-use py_node::{OutOfMemory, PyTypeRef};
+use py_node::{Cause, OutOfMemory, PyObjectRef, PyStrInterned, PyTypeRef};
 use std::sync::ledger::Ledger;
 
 #[tactic(auto, unfolding(crate::specs::Reading::plain))]
@@ -66,5 +66,79 @@ impl World {
     {
         self.classes.sound();
         self.log.set_bases(&mut self.classes, class, bases, steps)
+    }
+
+    /// Gives a class's own attribute a value. The class must be made by a script. Where it is refused or
+    /// memory runs out, the world stays as it was.
+    pub fn set_attr(
+        &mut self,
+        class: PyTypeRef,
+        name: PyStrInterned,
+        value: PyObjectRef,
+    ) -> Result<(), ClassFault>
+        requires class { Holds self.old (IsClass class.0) }
+        requires name { Holds self.old (IsName name) }
+        requires value { Holds self.old (IsNode value) }
+        ensures refused { (t : Reading) → refusal result ≡ refused_attr (plain t self.old).classes class.0 }
+        ensures set { OnOk result ((t : Reading) → plain t self.new ≡
+            with_own_attr (plain t self.old) class.0 (t.text name.0) value) }
+        ensures err { OnErr result (self.new ≡ self.old) }
+        ensures reads { (t : Reading) → Reads t self.new → Reads t self.old }
+        ensures grows { Grows self.old self.new }
+        ensures logged { OnOk result (self.new.log ≡ self.old.log ++ SetOwn class.0 name value ∷ []) }
+        ensures names { NamesNoClass result }
+    {
+        self.log.set_attr(&mut self.classes, class, name, value)
+    }
+
+    /// Gives a class's own attribute a value, by the text of its name. The class must be made by a script. Where it is
+    /// refused or memory runs out, only the text may have got a number.
+    pub fn set_str_attr(
+        &mut self,
+        class: PyTypeRef,
+        name: &str,
+        value: PyObjectRef,
+    ) -> Result<(), ClassFault>
+        requires class { Holds self.old (IsClass class.0) }
+        requires value { Holds self.old (IsNode value) }
+        ensures refused { (t : Reading) → refusal result ≡ refused_attr (plain t self.old).classes class.0 }
+        ensures set { OnOk result ((t : Reading) → Reads t self.new → plain t self.new ≡
+            with_own_attr (plain t self.old) class.0 name.now value) }
+        ensures same { OnErr result ((t : Reading) → plain t self.new ≡ plain t self.old) }
+        ensures reads { (t : Reading) → Reads t self.new → Reads t self.old }
+        ensures grows { Grows self.old self.new }
+        ensures names { NamesNoClass result }
+    {
+        if !self.class_is_heap(class) {
+            return Err(ClassFault::Refused(Cause::ImmutableType));
+        }
+        match self.intern(name) {
+            Err(_) => Err(ClassFault::OutOfMemory),
+            Ok(name) => self.set_attr(class, name, value),
+        }
+    }
+
+    /// Takes an own attribute out of a class that a script made, and says whether it was there. Where it is refused or
+    /// memory runs out, the world stays as it was.
+    pub fn del_attr_direct(
+        &mut self,
+        class: PyTypeRef,
+        name: PyStrInterned,
+    ) -> Result<bool, ClassFault>
+        requires class { Holds self.old (IsClass class.0) }
+        requires name { Holds self.old (IsName name) }
+        ensures refused { (t : Reading) → refusal result ≡ refused_attr (plain t self.old).classes class.0 }
+        ensures there { IfOk result (λ b. (t : Reading) → Reads t self.old → b ≡
+            is_some (own_of (λ y. is_text y (t.text name.0)) (class_numbered (plain t self.old).classes class.0))) }
+        ensures taken { OnOk result ((t : Reading) → plain t self.new ≡
+            without_own_attr (plain t self.old) class.0 (t.text name.0)) }
+        ensures absent { result ≡ Ok false → self.new ≡ self.old }
+        ensures logged { result ≡ Ok true → self.new.log ≡ self.old.log ++ DelOwn class.0 name ∷ [] }
+        ensures err { OnErr result (self.new ≡ self.old) }
+        ensures reads { (t : Reading) → Reads t self.new → Reads t self.old }
+        ensures grows { Grows self.old self.new }
+        ensures names { NamesNoClass result }
+    {
+        self.log.del_attr_direct(&mut self.classes, class, name)
     }
 }

@@ -8,7 +8,7 @@ ghost use Rattle.class_world.specs.Sound.{IsNode, IsClass, IsOf, Holding, HasPar
 ghost use Rattle.class_world.specs.Defined.{with_parts};
 ghost use Rattle.class_world.specs.Added.{IsEmptyDict, with_object, number_of_object};
 
-use crate::definer::put_parts;
+use crate::object_changes::put_parts;
 use crate::places::empty_places;
 use crate::world::World;
 use py_node::{

@@ -33,7 +33,7 @@ pub use Rattle.native_containers.specs.declared.native_items.next.Found.TheVaria
 pub use Rattle.native_containers.specs.declared.native_parts.PartsKept.{PartsKept}
 pub use Rattle.native_containers.specs.declared.native_parts.PartsKept.TheVariants.{Hashes, NewBool, NewInt, NewStr, NewTuple, Texts, Wrapped}
 pub use Rattle.native_containers.specs.declared.native_parts.hash.Hashing.{Hashing}
-pub use Rattle.native_containers.specs.declared.native_parts.take.Container.{Container}
+pub use Rattle.native_containers.specs.declared.native_parts.parts.Container.{Container}
 pub use Rattle.native_containers.specs.declared.native_parts.texts.Parts.{Parts}
 pub use Rattle.native_containers.specs.declared.native_parts.wrapped.Wrapper.{Wrapper}
 pub use Rattle.native_containers.specs.declared.native_parts.wrapped.Wrapper.TheVariants.{Class, Static}

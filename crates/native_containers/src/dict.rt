@@ -10,7 +10,7 @@ ghost use Rattle.row_kit.specs.declared.take_containers.Kind.TheVariants as kind
 use crate::init::{init, update_from};
 use crate::keys::has_room;
 use crate::made::ends_none;
-use crate::take::{dict_and_key, key_refusal, lone, own, own_and, own_and_two, with_default};
+use crate::receivers::{dict_and_key, key_refusal, lone, own, own_and, own_and_two, with_default};
 use class_world::World;
 use py_node::{Answer, BuiltIn, Cause, DictNative, FuncArgs, Payload, PyObjectRef, Raised, Stop};
 use row_kit::entries::{keys_of, values_of};

@@ -9,7 +9,7 @@ ghost use Rattle.row_kit.specs.declared.take_containers.Kind.TheVariants as kind
 
 use crate::entries::with_entries;
 use crate::made::{change_dict, ends_none};
-use crate::take::{kind_refusal, own};
+use crate::receivers::{kind_refusal, own};
 use class_world::World;
 use class_world::limits::has_place;
 use py_node::{Answer, Cause, FuncArgs, PyObjectRef, PyStrInterned, Stop};

@@ -4,7 +4,7 @@ ghost use Rattle.std.specs.Prelude.{◌≡◌};
 ghost use Rattle.native_containers.specs.Below.{of_ended, Reading, bindings, AllHold, AreNodes, Holds, EndsAs};
 ghost use Rattle.native_containers.specs.Say.{iterator_say};
 
-use crate::take::lone;
+use crate::receivers::lone;
 use class_world::World;
 use py_node::{Answer, Cause, FuncArgs, IteratorNative, Raised};
 use row_kit::take_containers::Kind;

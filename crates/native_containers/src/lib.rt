@@ -14,8 +14,8 @@ pub mod native_compare;
 pub mod native_items;
 pub mod native_parts;
 pub mod native_texts;
+pub mod receivers;
 mod sequence;
-pub mod take;
 mod tuple;
 
 pub use dict::dict_native;

@@ -9,8 +9,8 @@ ghost use Rattle.native_containers.specs.Take.{with_own_and};
 ghost use Rattle.row_kit.specs.declared.take_containers.Kind.TheVariants as kind;
 
 use crate::made::ends_none;
+use crate::receivers::own_and;
 use crate::sequence::{iter, joined, length};
-use crate::take::own_and;
 use class_world::World;
 use class_world::limits::is_within_limit;
 use py_node::{Answer, Cause, FuncArgs, ListNative, PyObjectRef, Stop};

@@ -6,7 +6,6 @@ ghost use Rattle.native_containers.specs.Below.{IfOk, of_args, of_ended, Leaves,
 ghost use Rattle.std.specs.Prelude.{◌≡◌};
 ghost use Rattle.py_node.specs.declared.task.Task.TheVariants as task;
 ghost use Rattle.native_containers.specs.NativeCompare.Rows.{Begins, Resumes, of_compared_kept};
-ghost use Rattle.native_containers.specs.NativeCompare.Say.{compares_items};
 
 mod dicts;
 mod sequences;
@@ -35,16 +34,6 @@ pub struct ComparedKept {
     pub second: Args,
     /// The place of the two items that come next.
     pub next: usize,
-}
-
-/// Whether a native is one of these.
-pub fn compares_items(entry: NativeEntry) -> bool
-    ensures { result ≡ compares_items entry }
-{
-    matches!(
-        entry,
-        NativeEntry::Compare(BuiltIn::Tuple | BuiltIn::List | BuiltIn::Dict, _)
-    )
 }
 
 /// The first step of one of these natives.

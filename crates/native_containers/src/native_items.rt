@@ -6,7 +6,6 @@ ghost use Rattle.native_containers.specs.Below.{IfOk, of_args, of_ended, Leaves,
 ghost use Rattle.std.specs.Prelude.{◌≡◌};
 ghost use Rattle.py_node.specs.declared.task.Task.TheVariants as task;
 ghost use Rattle.native_containers.specs.NativeItems.Rows.{Begins, Resumes, of_item_kept};
-ghost use Rattle.native_containers.specs.NativeItems.Say.{asks_for_items};
 
 mod characters;
 mod delete;
@@ -50,24 +49,6 @@ pub enum ItemKept {
     Searching(PyObjectRef, Args, usize),
     /// What an iterator's next item is.
     Iterating(PyObjectRef),
-}
-
-/// Whether a native is one of these.
-pub fn asks_for_items(entry: NativeEntry) -> bool
-    ensures { result ≡ asks_for_items entry }
-{
-    match entry {
-        NativeEntry::OfStr(StrNative::GetItem) => true,
-        NativeEntry::OfTuple(TupleNative::GetItem) => true,
-        NativeEntry::OfTuple(TupleNative::Contains) => true,
-        NativeEntry::OfList(ListNative::GetItem) => true,
-        NativeEntry::OfList(ListNative::SetItem) => true,
-        NativeEntry::OfList(ListNative::DelItem) => true,
-        NativeEntry::OfList(ListNative::Contains) => true,
-        NativeEntry::OfList(ListNative::InplaceAdd) => true,
-        NativeEntry::OfIterator(IteratorNative::Next) => true,
-        _ => false,
-    }
 }
 
 /// The first step of one of these natives.

@@ -7,12 +7,11 @@ ghost use Rattle.native_containers.specs.Below.{IfErr, IfOk, Ok, of_args, of_end
 ghost use Rattle.std.specs.Prelude.{◌≡◌};
 ghost use Rattle.py_node.specs.declared.task.Task.TheVariants as task;
 ghost use Rattle.native_containers.specs.NativeParts.Rows.{Begins, Resumes, of_parts_kept};
-ghost use Rattle.native_containers.specs.NativeParts.Say.{asks_for_parts};
 
 mod hash;
 mod makers;
 mod numbers;
-mod take;
+mod parts;
 mod texts;
 mod wrapped;
 
@@ -21,12 +20,12 @@ pub use hash::Hashing;
 use hash::{begin_hash, hash_given};
 use makers::{begin_list, begin_str, begin_tuple, fill, str_made, tuple_made};
 use numbers::{begin_bool, begin_int, int_made};
+pub use parts::Container;
 use py_node::task::{Args, Keywords};
 use py_node::{
     Answer, BuiltIn, DictNative, FuncArgs, ListNative, NativeEntry, OutOfMemory, PyObjectRef,
     PyTypeRef, Raised, Step, TupleNative, WrapperNative,
 };
-pub use take::Container;
 pub use texts::Parts;
 use texts::{begin_text, text_given};
 pub use wrapped::Wrapper;
@@ -51,20 +50,6 @@ pub enum PartsKept {
     NewTuple(PyTypeRef),
     /// A list that gets the items of an iteration, which were asked for.
     Filling(PyObjectRef),
-}
-
-/// Whether a native is one of these.
-pub fn asks_for_parts(entry: NativeEntry) -> bool
-    ensures { result ≡ asks_for_parts entry }
-{
-    match entry {
-        NativeEntry::OfTuple(TupleNative::Repr | TupleNative::Hash) => true,
-        NativeEntry::OfList(ListNative::Init | ListNative::Repr) => true,
-        NativeEntry::OfDict(DictNative::Repr) => true,
-        NativeEntry::OfWrapper(WrapperNative::ClassRepr | WrapperNative::StaticRepr) => true,
-        NativeEntry::NewOf(BuiltIn::Int | BuiltIn::Bool | BuiltIn::Str | BuiltIn::Tuple) => true,
-        _ => false,
-    }
 }
 
 /// The first step of one of these natives.

@@ -3,7 +3,7 @@
 
 mod compare;
 mod of_bytes;
-pub mod take;
+pub mod own_text;
 mod text;
 
 pub use compare::compare_text;

@@ -6,7 +6,7 @@ ghost use Rattle.std.specs.Prelude.{◌≡◌, ◌++◌};
 ghost use Rattle.native_containers.specs.Say.{counted, with_joined};
 ghost use Rattle.native_containers.specs.Take.{with_lone};
 
-use crate::take::{lone, own_and};
+use crate::receivers::{lone, own_and};
 use class_world::World;
 use class_world::limits::is_within_limit;
 use py_node::task::Args;

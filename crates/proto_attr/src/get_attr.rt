@@ -10,7 +10,7 @@ ghost use Rattle.proto_attr.specs.Rows.{Begins, Starts, Resumes, of_attribute_ke
 
 use crate::AttributeKept;
 use crate::named::by_name;
-use crate::setting::asked;
+use crate::set_attr::asked;
 use class_world::World;
 use py_node::{
     Answer, AttributeTask, DescriptorTask, Kind, Known, NativeEntry, OutOfMemory, PyObjectRef,

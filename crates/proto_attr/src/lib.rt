@@ -23,7 +23,7 @@ pub mod native_details;
 pub mod native_objects;
 mod object_set;
 pub mod proto_descr;
-mod setting;
+mod set_attr;
 mod special;
 
 use class_world::{Fixed, World};
@@ -66,8 +66,8 @@ pub fn begin(world: &mut World, task: AttributeTask) -> Result<Step<AttributeKep
         AttributeTask::GenericSet(o, name, value) => {
             object_set::generic_set(world, o, name, value)
         }
-        AttributeTask::SetAttr(o, name, value) => setting::set_attr(world, o, name, value),
-        AttributeTask::TypeSet(class, name, value) => setting::type_set(world, class, name, value),
+        AttributeTask::SetAttr(o, name, value) => set_attr::set_attr(world, o, name, value),
+        AttributeTask::TypeSet(class, name, value) => set_attr::type_set(world, class, name, value),
         AttributeTask::Special(o, name, args, kw) => { special::special(world, o, name, args, kw) }
         AttributeTask::Bind(m, o, class) => Ok(binding::bind(world, m, o, class)),
         AttributeTask::HasAttr(o, name) => Ok(get_attr::has_attr(o, name)),

@@ -42,8 +42,6 @@ pub mod way;
 mod wrap;
 mod wrapped;
 
-pub use way::asks;
-
 /// What a native keeps while it waits for an answer.
 #[derive(Drop)]
 pub enum NativeKept {

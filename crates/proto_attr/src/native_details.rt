@@ -6,7 +6,6 @@ ghost use Rattle.proto_attr.specs.Below.{IfOk, of_args, of_ended, Leaves, AllHol
 ghost use Rattle.std.specs.Prelude.{◌≡◌};
 ghost use Rattle.py_node.specs.declared.task.Task.TheVariants as task;
 ghost use Rattle.proto_attr.specs.NativeDetails.Rows.{Begins, Resumes, of_detail_kept};
-ghost use Rattle.proto_attr.specs.NativeDetails.Say.{asks_for_details};
 
 use crate::native_details::abstracts::{ask_setter, begin_abstract, join, or_not_abstract};
 use crate::native_details::names::{begin_name, name_given};
@@ -30,17 +29,6 @@ pub enum DetailKept {
     AfterBoth,
     /// The class of this member was asked for its qualified name.
     AfterClass(PyObjectRef),
-}
-
-/// Whether a native is one of these.
-pub fn asks_for_details(entry: NativeEntry) -> bool
-    ensures { result ≡ asks_for_details entry }
-{
-    matches!(
-        entry,
-        NativeEntry::GetterOf(BuiltIn::Property, Detail::IsAbstract)
-            | NativeEntry::GetterOf(BuiltIn::MemberDescriptor, Detail::Qualname)
-    )
 }
 
 /// The first step of one of these natives.

@@ -11,8 +11,8 @@ mod getters;
 mod makers;
 mod property;
 mod rebase;
+mod receivers;
 mod setters;
-mod take;
 
 pub use descriptors::{callable_native, descriptor_native, super_native, wrapper_native};
 pub use detail_setters::setter_of_native;
@@ -20,5 +20,5 @@ pub use details::getter_of_native;
 pub use getters::getter_native;
 pub use makers::maker_native;
 pub use property::property_native;
+pub use receivers::own_property;
 pub use setters::setter_native;
-pub use take::own_property;

@@ -8,7 +8,7 @@ ghost use Rattle.proto_attr.specs.Rows.{Begins, Starts, of_attribute_kept};
 
 use crate::AttributeKept;
 use crate::generic::no_attribute;
-use crate::setting::setter;
+use crate::set_attr::setter;
 use class_world::World;
 use class_world::limits::has_place;
 use py_node::{

@@ -5,22 +5,22 @@ ghost use Rattle.proto_attr.specs.Below.{IfOk, PlainWorld, Told, Ends, done, end
 ghost use Rattle.std.specs.Prelude.{◌≡◌};
 ghost use Rattle.proto_attr.specs.ProtoDescr.Rows.{Begins, Resumes, of_descriptor_kept};
 
+mod descr_set;
 mod descriptor;
 mod member;
 mod property;
-mod setting;
 mod super_get;
 mod super_init;
 mod super_start;
 mod wrapped;
 
 use class_world::World;
+pub use descr_set::getset_set;
 pub use descriptor::{bind_function, bind_native};
 pub use member::{member_get, member_set};
 pub use property::{property_get, property_set};
 use py_node::{Answer, DescriptorTask, OutOfMemory, PyObjectRef, PyTypeRef, Raised, Step, caught};
 use row_kit::give::as_object;
-pub use setting::getset_set;
 pub use super_start::{bind_super, unbound_super};
 use wrapped::resume_class_method;
 pub use wrapped::{bind_class_method, bind_getset, class_for, get_of, static_method_get};
@@ -50,7 +50,7 @@ pub fn begin(world: &mut World, task: DescriptorTask) -> Result<Step<DescriptorK
 {
     match task {
         DescriptorTask::DescrGet(m, o, class) => descriptor::descr_get(world, m, o, class),
-        DescriptorTask::DescrSet(m, o, value) => setting::descr_set(world, m, o, value),
+        DescriptorTask::DescrSet(m, o, value) => descr_set::descr_set(world, m, o, value),
         DescriptorTask::SuperGet(s, name) => Ok(super_get::super_get(world, s, name)),
         DescriptorTask::SuperInit(s, args) => super_init::super_init(world, s, args),
         DescriptorTask::SuperCheck(class, o) => Ok(super_start::super_check(world, class, o)),

@@ -33,8 +33,8 @@ pub use Rattle.proto_call.specs.ClassMake.Rows.{Bound, Makes, Types, class_stand
 pub use Rattle.proto_call.specs.ClassMake.Say.{Entries, Space, a_member, attrs_in, bind_hook, bind_hooks, by_bases, by_classes, by_one, by_parts, by_slots, by_winner, call_hooks, called_with, classes_of, defined, derived, dict_of, from_three, functions_of, has_name, init_subclass, namespace, namespace_from, new_class, on_bases, on_layout, or_zero, own_values, places_from, refusal, tell, text_of, texts_of, the_member, there, three_of, tuple_of, type_by, type_call, type_new, type_new_of, unless_raised, values_of, winner, with_class, with_functions, with_member, with_members, with_namespace, with_own_members, would_have_dict}
 unfoldable pub use Rattle.proto_call.specs.ClassMake.Say.{class_job_say, completed, dicted, give, give_dict, made_unless, put, put_member, qualify, unhash, whole_class, wrap, wrap_value}
 pub use Rattle.proto_call.specs.EvalForms.ClassForm.{ArePairs, AreSpelled}
-pub use Rattle.proto_call.specs.EvalForms.Rows.{Continues, EndsRow, HasValues, IsOther, IsOwn, Resumes, answered, args_of, arguments, arguments_at, called_task, eval_stands, evaluated_tree, has_argument, has_operand, has_pair, keywords_of, named, of_eval_kept, operands, operands_at, pairs, pairs_at, pairs_of, pairs_told, positional, Goes, arguments_row, eval_group, operands_row, pairs_row}
-pub use Rattle.proto_call.specs.EvalForms.Say.{Pairs, attr_say, call_with, called_say, class_by, class_say, class_within, del_attr_say, entry_names, evaluate_pairs, func_say, given_metaclass, given_say, if_say, keyed, last_or_none, list_say, make_dict, metaclass, on_keywords, operand_trees, other_keywords, own_say, raise_say, seq_say, set_attr_say, tuple_say, unrepeated, with_dict, arguments_say, dict_say, invoke_say, on_method}
+pub use Rattle.proto_call.specs.EvalForms.Rows.{Continues, EndsRow, HasValues, IsOther, IsOwn, Resumes, answered, args_of, arguments, arguments_at, attribute, called_task, eval_stands, evaluated_tree, has_argument, has_operand, has_pair, keywords_of, named, of_eval_kept, operands, operands_at, pairs, pairs_at, pairs_of, pairs_told, positional, Goes, arguments_row, eval_group, operands_row, pairs_row}
+pub use Rattle.proto_call.specs.EvalForms.Say.{Pairs, attr_say, call_say, call_with, called_say, callee_say, class_by, class_say, class_within, const_say, del_attr_say, entry_names, evaluate_pairs, func_say, given_metaclass, given_say, if_say, keyed, last_or_none, list_say, make_dict, metaclass, on_keywords, operand_trees, other_keywords, own_say, raise_say, seq_say, set_attr_say, tuple_say, unrepeated, with_dict, arguments_say, dict_say, invoke_say, on_method}
 unfoldable pub use Rattle.proto_call.specs.EvalForms.Say.{eval_say}
 pub use Rattle.proto_call.specs.EvalForms.Words.{asked, made, one_of, op_say, with_index}
 pub use Rattle.proto_call.specs.Rows.{Begins, Closes, Does, call_stands, call_group}
@@ -50,7 +50,7 @@ pub use Rattle.proto_call.specs.declared.eval_forms.bounds.Part.{Part}
 pub use Rattle.proto_call.specs.declared.eval_forms.call_form.Called.{Called}
 pub use Rattle.proto_call.specs.declared.eval_forms.outcome.Outcome.{Outcome}
 pub use Rattle.py_node.specs.Attributes.{AreNamesDistinct, is_same_name, value_of, with_value}
-pub use Rattle.py_node.specs.Tree.{KeyedTrees, TDict, Text, Tree, entry_trees, keyed_of, list_of, no_keyed, trees_of}
+pub use Rattle.py_node.specs.Tree.{KeyedTrees, TConst, TDict, Text, Tree, Trees, entry_trees, keyed_of, list_of, literal_of, no_keyed, trees_of}
 pub use Rattle.py_node.specs.declared.known.Known.TheVariants.{Metaclass, MroEntries, SetName}
 pub use Rattle.py_node.specs.declared.refs.PyTypeRef.{PyTypeRef}
 pub use Rattle.py_node.specs.declared.task.Answer.TheVariants.{Done, Exhausted, Maybe, Method, Number, Objects, Start, Truth, Value}

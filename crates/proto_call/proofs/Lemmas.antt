@@ -25,13 +25,13 @@ pub use Rattle.proto_call.proofs.ClassMake.Spaces.{completed-classes, dict-given
 pub use Rattle.proto_call.proofs.ClassMake.Telling.{ask-call, ask-value, drop-none, hook-bound, hook-called, hook-other, hook-raised, made-goes, skipping-ends, skipping-step, tell-goes}
 pub use Rattle.proto_call.proofs.Decide.{does, does-after, ends-does, object-ends, told-resumes, type-ends}
 pub use Rattle.proto_call.proofs.Entered.{all-fill, body-begins, empty-is, enters-by, filled-opens, last-read, rest-fills, shown-read, some-holds, texts-read}
-pub use Rattle.proto_call.proofs.EvalForms.Arguments.{all-given, argument-asked, argument-holds, argument-other, arguments-given, has-argument, named-hold, no-more, plainly-given, argument-more, method-first}
+pub use Rattle.proto_call.proofs.EvalForms.Arguments.{all-given, argument-asked, argument-holds, argument-other, arguments-given, has-argument, named-hold, no-more, plainly-given, argument-more, call-first, method-first}
 pub use Rattle.proto_call.proofs.EvalForms.ClassForm.{asks-takes, class-made, class-said, cons-nodes, drop-got, drop-nodes, entry-holds, first-holds, given-holds, keyed-next, pairs-grow, pairs-push, take-nodes, takes-same, within-is}
 pub use Rattle.proto_call.proofs.EvalForms.Counting.{asks-stop, asks-then, ends-start}
 pub use Rattle.proto_call.proofs.EvalForms.DictForm.{below-pairs, dict-made, fits-more, has-pair, key-asked, key-ends, made-after, no-pairs, own-dict, pair-found, pairs-pushed, part-holds, refused-ends, value-asked, value-ends}
 pub use Rattle.proto_call.proofs.EvalForms.Found.{find-map}
 pub use Rattle.proto_call.proofs.EvalForms.Keys.{keys-differ, no-keys-yet, spelled-next}
-pub use Rattle.proto_call.proofs.EvalForms.Operands.{append-on, attr-name, call-func, class-long, class-names, del-name, ends-with, goes-on, has-operand, has-values, if-branches, names-in, one-holds, operand-holds, own-closes, own-func, own-list, own-takes, own-takes-read, own-tuple, says-attr, says-call, says-class, says-del, says-if, says-op, says-raise, says-seq, says-set, set-name, one-more}
+pub use Rattle.proto_call.proofs.EvalForms.Operands.{append-on, attr-name, call-func, class-long, class-names, del-name, ends-with, goes-on, has-operand, has-values, if-branches, names-in, one-holds, operand-holds, own-closes, own-const, own-func, own-list, own-takes, own-takes-read, own-tuple, says-attr, says-call, says-class, says-del, says-if, says-op, says-raise, says-seq, says-set, set-name, one-more}
 pub use Rattle.proto_call.proofs.EvalForms.Outcomes.{asks-made}
 pub use Rattle.proto_call.proofs.EvalForms.Sequels.{last-is, one-item, three-items, two-items}
 pub use Rattle.proto_call.proofs.EvalForms.Unrepeated.{are-repeated, are-single, metaclass-read, others-hold, others-read}

@@ -1,5 +1,5 @@
 -- Items that are asked one after another.
-use Rattle.proto_object.proofs.Below.{ℕ, zero, suc, List, [], drop, refl, sym, ap, ◌∙◌, arith, true, false, Some, None, Ok, slice_get, Vec, PyObjectRef, Truth, Value, End, PlainWorld, ATuple, Told, ReadObjects, noting, value, datum_at, World, Reading, plain, Goes, Point, Held, AllHold, AreNodes, IsNode, Holds, of_object_task, says, any_of, AfterOwn, Each, Turn, InstanceOf, SubclassOf, Derives, tuple_once, asked_of, object_group, object_stands, of_turn, turn_job, turn_rest, turn_step, goes-noting}
+use Rattle.proto_object.proofs.Below.{ℕ, zero, suc, List, [], drop, refl, sym, ap, ◌∙◌, arith, false, Some, None, Ok, slice_get, Vec, PyObjectRef, Truth, PlainWorld, Told, ReadObjects, noting, World, Reading, plain, Goes, Point, Held, AllHold, AreNodes, IsNode, Holds, of_object_task, says, any_of, Each, Turn, InstanceOf, SubclassOf, Derives, asked_of, object_group, of_turn, turn_job, turn_rest, turn_step, goes-noting}
 use Rattle.std.proofs.Common.{◌≡◌, ◌+◌, ◌∷◌, ◌++◌}
 use Rattle.proto_object.specs.Rows.{Resumes}
 
@@ -25,19 +25,10 @@ takes-turn w turn items n (r ∷ rs) e = λ t q.
 pub next-goes : (w : World) (turn : Turn) (items : Vec PyObjectRef) (n : ℕ) → Resumes (Each turn items n) (Ok (Truth false)) w w (turn_step turn (drop n items.items) (Each turn items (n + 1)))
 next-goes w turn items n = takes-turn w turn items n (drop n items.items) refl
 
--- an item counts, and that is the answer
-pub counts : (w : World) (turn : Turn) (items : Vec PyObjectRef) (n : ℕ) → Resumes (Each turn items n) (Ok (Truth true)) w w (End (Ok (Truth true)))
-counts w turn items n = λ t q. (q, (refl, refl))
-
 -- the objects of a tuple are read once, and each is asked
 pub reads-each : (w : World) (turn : Turn) (items : Vec PyObjectRef) (whole : Reading → Point) → ((t : Reading) (u : PlainWorld) (more : Told) → whole t u (ReadObjects items.items ∷ more) ≡ any_of u (turn_job turn) says items.items more) → ((t : Reading) → whole t (plain t w) [] ≡ noting (ReadObjects items.items) (any_of (plain t w) (turn_job turn) says items.items [])) → Goes object_group whole w w (turn_step turn items.items (Each turn items 1))
 reads-each w turn items whole on is =
     goes-noting object_group (λ t u. any_of u (turn_job turn) says items.items) whole (ReadObjects items.items) on w w (turn_step turn items.items (Each turn items 1)) is (takes-turn w turn items 0 items.items refl)
-
--- such are the bases of what is to derive from an object
-pub bases-go : (w : World) (c b : PyObjectRef) (items : Vec PyObjectRef) → ((t : Reading) → datum_at (plain t w) b ≡ Some (ATuple items.items)) → Resumes (AfterOwn c) (Ok (Value b)) w w (turn_step (Derives c) items.items (Each (Derives c) items 1))
-bases-go w c b items is =
-    reads-each w (Derives c) items (λ t. object_stands t (AfterOwn c) (value b)) (λ t u more. refl) (λ t. let u = plain t w in ap (λ d. tuple_once u d (any_of u (turn_job (Derives c)) says) []) (is t))
 
 -- the item at a place, and those after it
 pub drop-got : {A : Type 0} (xs : List A) (i : ℕ) (x : A) → slice_get xs i ≡ Some x → drop i xs ≡ x ∷ drop (i + 1) xs

@@ -6,7 +6,7 @@ ghost use Rattle.proto_ops.specs.Below.{Some, IfOk, of_args, of_ended, of_step, 
 ghost use Rattle.std.specs.Prelude.{◌≡◌};
 ghost use Rattle.py_node.specs.declared.task.Task.TheVariants as task;
 ghost use Rattle.proto_ops.specs.NativeRepeats.Rows.{Begins, Enters, Resumes, of_repeat_kept};
-ghost use Rattle.proto_ops.specs.NativeRepeats.Say.{kind_of, repeats};
+ghost use Rattle.proto_ops.specs.NativeRepeats.Say.{kind_of};
 
 mod by_name;
 mod count;
@@ -33,13 +33,6 @@ pub struct RepeatKept {
     pub object: PyObjectRef,
     /// The items that it had, where it is a list.
     pub items: Args,
-}
-
-/// Whether a native is one of these.
-pub fn repeats(entry: NativeEntry) -> bool
-    ensures { result ≡ repeats entry }
-{
-    kind_of(entry).is_some()
 }
 
 /// The first step of one of these natives.

@@ -12,6 +12,6 @@ pub mod int_values;
 pub mod proto_base;
 pub mod questions;
 pub mod signatures;
-pub mod take;
 pub mod take_classes;
 pub mod take_containers;
+pub mod take_numbers;

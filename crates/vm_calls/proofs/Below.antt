@@ -28,7 +28,7 @@ pub use Rattle.native_containers.specs.NativeTexts.Texts.{repr_text, stands_in}
 pub use Rattle.native_containers.specs.Say.{dict_changed, dict_filled, dict_updated, ends_none, iterator_say, key_taken, list_changed, list_say, names_set, tuple_say, unless_long, value_under, with_joined, with_like}
 pub use Rattle.native_containers.specs.Take.{with_default, with_dict_and_key, with_key, with_lone, with_own_and, with_own_and_two}
 pub use Rattle.native_containers.specs.declared.native_compare.way.Turns.{Turns}
-pub use Rattle.native_containers.specs.declared.native_parts.take.Container.{Container}
+pub use Rattle.native_containers.specs.declared.native_parts.parts.Container.{Container}
 pub use Rattle.plain_machine.proofs.Follow.{reach-is}
 pub use Rattle.plain_machine.specs.Answer.{Ending, Follow, NoUnits, Out, Outcome, Over, answer, asked, carry, closing, step}
 unfoldable pub use Rattle.plain_machine.specs.Answer.{follow, reach}
@@ -186,7 +186,7 @@ pub use Rattle.vm_calls.specs.Loaded.{InvokedIsCalled, LoadedIsRead}
 pub use Rattle.vm_calls.specs.OfProtocols.Views.{HasMappingSlots, HasSequenceSlots, is_of_mappings, is_of_numbers, is_of_sequences, only}
 unfoldable pub use Rattle.vm_calls.specs.SlotTables.Numbers.{given_by, method_entry, number_entry}
 unfoldable pub use Rattle.vm_calls.specs.SlotTables.Tables.{mapping_entry, sequence_entry, type_entry}
-pub use Rattle.vm_calls.specs.Told.{EndIs, EndsAs, Tells}
+pub use Rattle.vm_calls.specs.Told.{EndIs, EndsLike, Tells}
 pub use Rattle.vm_calls.specs.Views.{AskedWith, MakesNode, TellsItems, TellsMadeOf, ToldWith, lacks, made_of}
 pub use Rattle.vm_calls.specs.declared.slot_tables.number.PyNumberMethods.{PyNumberMethods}
 pub use Rattle.vm_calls.specs.declared.slot_tables.number.PyNumberSlots.{PyNumberSlots}

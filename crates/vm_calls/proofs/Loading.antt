@@ -1,5 +1,5 @@
 -- A method that was loaded is the one that reading the attribute makes, and to call what was loaded is to call that.
-use Rattle.vm_calls.proofs.Below.{ℕ, zero, suc, Bool, true, false, cond, nat_lt, length, List, [], Option, Some, None, Ok, Err, IsTrue, refl, sym, ap, ◌∙◌, subst, arith, PyObjectRef, DepthLimit, Getattro, SlotEntry, Native, OfObject, Answer, PyMethod, Function, PyResult, Done, Budget, Started, Text, Found, Ending, Over, NoUnits, Outcome, Out, answer, asked, carry, closing, reach, step, the_dict, the_method, Datum, AMethod, PlainWorld, PlainTask, PlainAnswer, ADict, AsValue, AsDone, AsNumber, AsTruth, AsMaybe, AsObjects, AsExhausted, AsFunction, AsAttribute, AsStart, Bindings, DoGetAttr, DoLoadMethod, DoInvoke, DoCall, ToAttribute, ToCall, Ended, Answered, Told, Said, Asks, Ends, fault, value, class_at, datum_at, has_dict, slot_at, push_node, ref, with_node, next_node, without_calls, special_at, is_fast, own_value, reach-is, attribute_say, find, load, load_by, load_fast, load_found, call_job_say, is_of, kind_of, IsOfKind, AnswersAreOfTheirKinds, Reading, plain, answer_of, bindings, ending_in, unnoted, say, State, IsMethod, IsObject, InvokedIsCalled, LoadedIsRead, EndsAs}
+use Rattle.vm_calls.proofs.Below.{ℕ, zero, suc, Bool, true, false, cond, nat_lt, length, List, [], Option, Some, None, Ok, Err, IsTrue, refl, sym, ap, ◌∙◌, subst, arith, PyObjectRef, DepthLimit, Getattro, SlotEntry, Native, OfObject, Answer, PyMethod, Function, PyResult, Done, Budget, Started, Text, Found, Ending, Over, NoUnits, Outcome, Out, answer, asked, carry, closing, reach, step, the_dict, the_method, Datum, AMethod, PlainWorld, PlainTask, PlainAnswer, ADict, AsValue, AsDone, AsNumber, AsTruth, AsMaybe, AsObjects, AsExhausted, AsFunction, AsAttribute, AsStart, Bindings, DoGetAttr, DoLoadMethod, DoInvoke, DoCall, ToAttribute, ToCall, Ended, Answered, Told, Said, Asks, Ends, fault, value, class_at, datum_at, has_dict, slot_at, push_node, ref, with_node, next_node, without_calls, special_at, is_fast, own_value, reach-is, attribute_say, find, load, load_by, load_fast, load_found, call_job_say, is_of, kind_of, IsOfKind, AnswersAreOfTheirKinds, Reading, plain, answer_of, bindings, ending_in, unnoted, say, State, IsMethod, IsObject, InvokedIsCalled, LoadedIsRead, EndsLike}
 use Rattle.std.proofs.Common.{◌≡◌, ◌<◌, ◌∷◌, ◌++◌}
 use Rattle.py_node.specs.declared.entry.ObjectNative.TheVariants as object
 use Rattle.py_node.specs.declared.task.Answer.TheVariants.{Method}
@@ -136,7 +136,7 @@ back (Done r) = Over (value r)
 back (Raised x) = Over (Err x)
 back Budget = NoUnits
 
-told-back : (told : PyResult PyObjectRef) (end : PyResult Answer) → EndsAs IsObject told end → ending_in end ≡ back told
+told-back : (told : PyResult PyObjectRef) (end : PyResult Answer) → EndsLike IsObject told end → ending_in end ≡ back told
 told-back (Done r) (Done b) h = ap (λ (b : Answer). Over (Ok (answer_of b))) h
 told-back (Raised x) (Raised y) h = ap (λ x. Over (Err x)) (sym h)
 told-back Budget Budget h = refl
@@ -158,7 +158,7 @@ same-told (Raised x) Budget h = absurd (let no : ⊥ = cc h in no)
 same-told Budget (Done s) h = absurd (let no : ⊥ = cc h in no)
 same-told Budget (Raised y) h = absurd (let no : ⊥ = cc h in no)
 
-method-told : (m : PyMethod) (end : PyResult Answer) → EndsAs IsMethod (Done m) end → ending_in end ≡ Over (Ok (answer_of (Method m)))
+method-told : (m : PyMethod) (end : PyResult Answer) → EndsLike IsMethod (Done m) end → ending_in end ≡ Over (Ok (answer_of (Method m)))
 method-told m (Done b) h = ap (λ (b : Answer). Over (Ok (answer_of b))) h
 method-told m (Raised y) h = absurd h
 method-told m Budget h = absurd h

@@ -5,11 +5,11 @@ use Rattle.vm_eval.specs.declared.machine.RunFault.TheVariants as run_fault
 use Rattle.vm_calls.specs.Answers.{IsAnswer, IsObject, IsMaybe, IsMethod, IsDone, IsTruth, IsOpposite, IsOrder, IsNumber, IsLength, IsHint, IsHintOr, IsSome}
 
 -- a call ends as the task did: what is told is such of the answer
-abbrev pub EndsAs : {T : Type 0} → (T → Answer → Type 0) → PyResult T → PyResult Answer → Type 0
-EndsAs Is (Done x) (Done a) = Is x a
-EndsAs Is (Raised x) (Raised y) = x ≡ y
-EndsAs Is Budget Budget = Unit {0}
-EndsAs Is _ _ = ⊥
+abbrev pub EndsLike : {T : Type 0} → (T → Answer → Type 0) → PyResult T → PyResult Answer → Type 0
+EndsLike Is (Done x) (Done a) = Is x a
+EndsLike Is (Raised x) (Raised y) = x ≡ y
+EndsLike Is Budget Budget = Unit {0}
+EndsLike Is _ _ = ⊥
 
 -- the machine tells something: where there is an answer, this holds of the worlds before and after it and of the answer; what it names is there. On a machine that has failed nothing is done, else only want of memory is another answer, and the machine has failed then. However it ends, the world is sound, what held of numbers holds still, and no body runs
 pub record Tells {R : Type 0} (Leads : Held → Held → R → Type 0) (of : R → List Claim) (old new : State) (result : Result R RunFault) : Type 0 where
@@ -26,7 +26,7 @@ pub record Tells {R : Type 0} (Leads : Held → Held → R → Type 0) (of : R �
 
 -- this task ended between the worlds, and what is told is such of its answer
 abbrev pub EndIs : {T : Type 0} → (Held → Held → PyResult Answer → Type 0) → (T → Answer → Type 0) → Held → Held → PyResult T → Type 0
-EndIs Ended Is old new told = (end : PyResult Answer) × Ended old new end × EndsAs Is told end
+EndIs Ended Is old new told = (end : PyResult Answer) × Ended old new end × EndsLike Is told end
 
 -- the machine answers the task, from one machine to the other: the answer and the world then are the plain machine's, and what is told is such of the answer
 abbrev pub Told : {T : Type 0} → (T → Answer → Type 0) → (T → List Claim) → Task → ℕ → State → State → Result (PyResult T) RunFault → Type 0

@@ -5,7 +5,7 @@ use Rattle.py_node.specs.declared.task.Task.TheVariants as task
 use Rattle.vm_calls.specs.declared.made.Made.{Made}
 use Rattle.vm_calls.specs.declared.made.Made.TheVariants as made
 use Rattle.vm_calls.specs.Answers.{AreObjects}
-use Rattle.vm_calls.specs.Told.{EndIs, EndsAs, Keeps, Tells, Told}
+use Rattle.vm_calls.specs.Told.{EndIs, EndsLike, Keeps, Tells, Told}
 
 -- a fault of a cause
 abbrev pub lacks : {T : Type 0} → Cause → PyResult T
@@ -73,7 +73,7 @@ made_of class datum w Budget = (w, Budget)
 -- the items of an object are collected, which leads to some world, and a new object of the class is made of them there
 abbrev pub MadeOfItems : ℕ → (List PyObjectRef → Datum) → PyObjectRef → ℕ → Held → Held → PyResult PyObjectRef → Type 0
 MadeOfItems class datum o units old new told =
-    (items : PyResult (Vec PyObjectRef)) × (end : PyResult Answer) × EndsAs AreObjects items end × ((t : Reading) → Reads t new → Reads t old × (mid : PlainWorld) × (left : ℕ) × (unnoted (answer say (plain t old) (ToProtocol (DoCollect o)) units 0) ≡ Out mid (ending_in end) left) × (made_of class datum mid items ≡ (plain t new, told)))
+    (items : PyResult (Vec PyObjectRef)) × (end : PyResult Answer) × EndsLike AreObjects items end × ((t : Reading) → Reads t new → Reads t old × (mid : PlainWorld) × (left : ℕ) × (unnoted (answer say (plain t old) (ToProtocol (DoCollect o)) units 0) ≡ Out mid (ending_in end) left) × (made_of class datum mid items ≡ (plain t new, told)))
 
 abbrev pub TellsMadeOf : ℕ → (List PyObjectRef → Datum) → PyObjectRef → ℕ → State → State → Result (PyResult PyObjectRef) RunFault → Type 0
 TellsMadeOf class datum o units = Tells (MadeOfItems class datum o units) (of_done of_node_ref)

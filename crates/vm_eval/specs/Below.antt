@@ -23,11 +23,11 @@ pub use Rattle.class_world.specs.Rows.{EndsAs, LeavesEnd}
 pub use Rattle.class_world.specs.Sound.{AllHold, AreNames, Claim, Grows, Holding, Holds, IsClass, IsExpression, IsName, IsNode, IsOf, IsOffset, Lasts, class_in, home_of, of_binding, of_class_ref, of_each, of_name_ref, of_option, of_payload}
 pub use Rattle.class_world.specs.declared.world.World.{World}
 pub use Rattle.native_containers.specs.NativeCompare.Rows.{compared_stands, of_compared_kept}
-pub use Rattle.native_containers.specs.NativeCompare.Say.{compare_native_say, compares_items}
+pub use Rattle.native_containers.specs.NativeCompare.Say.{compare_native_say}
 pub use Rattle.native_containers.specs.NativeItems.Rows.{item_stands, of_item_kept}
-pub use Rattle.native_containers.specs.NativeItems.Say.{asks_for_items, items_native_say}
+pub use Rattle.native_containers.specs.NativeItems.Say.{items_native_say}
 pub use Rattle.native_containers.specs.NativeParts.Rows.{of_parts_kept, parts_stands}
-pub use Rattle.native_containers.specs.NativeParts.Say.{asks_for_parts, parts_native_say}
+pub use Rattle.native_containers.specs.NativeParts.Say.{parts_native_say}
 pub use Rattle.native_containers.specs.NativeTexts.Say.{compare_text_say, text_say}
 pub use Rattle.native_containers.specs.Say.{dict_say, iterator_say, list_say, tuple_say}
 pub use Rattle.plain_machine.specs.Answer.{Ending, NoUnits, Out, Outcome, Over, Run, answer, answering, plain_run, reach, replied}
@@ -40,11 +40,11 @@ pub use Rattle.plain_machine.specs.Sound.{IsSound, read_offset, set_offset}
 pub use Rattle.plain_machine.specs.Start.{start}
 pub use Rattle.plain_machine.specs.World.{has_dict, is_text, next_node, ref, text_keys, with_new_class, with_node, with_own_attr, without_calls}
 pub use Rattle.proto_attr.specs.NativeCalls.Asks.{asking_stands, of_native_kept}
-pub use Rattle.proto_attr.specs.NativeCalls.Say.{asking_say, asks}
+pub use Rattle.proto_attr.specs.NativeCalls.Say.{asking_say}
 pub use Rattle.proto_attr.specs.NativeDefs.Definitions.{as_bound_method, as_function, as_method, definition_of, with_method}
 pub use Rattle.proto_attr.specs.NativeDefs.Members.{as_member, member_of}
 pub use Rattle.proto_attr.specs.NativeDetails.Rows.{detail_stands, of_detail_kept}
-pub use Rattle.proto_attr.specs.NativeDetails.Say.{asks_for_details, details_native_say}
+pub use Rattle.proto_attr.specs.NativeDetails.Say.{details_native_say}
 pub use Rattle.proto_attr.specs.NativeObjects.Descriptors.{callable_say, descriptor_native_say, property_say, super_say, wrapper_say}
 pub use Rattle.proto_attr.specs.NativeObjects.DetailSetters.{setter_of_say}
 pub use Rattle.proto_attr.specs.NativeObjects.Details.{getter_of_say}
@@ -71,7 +71,7 @@ pub use Rattle.proto_object.specs.Rows.{object_stands, of_object_kept}
 pub use Rattle.proto_object.specs.Say.{object_job_say}
 pub use Rattle.proto_ops.specs.NativeNumbers.Say.{arithmetic_say, bits_say, compare_say, fixed_say, number_say}
 pub use Rattle.proto_ops.specs.NativeRepeats.Rows.{of_repeat_kept, repeat_stands}
-pub use Rattle.proto_ops.specs.NativeRepeats.Say.{repeat_native_say, repeats}
+pub use Rattle.proto_ops.specs.NativeRepeats.Say.{repeat_native_say}
 pub use Rattle.proto_ops.specs.ProtoCompare.Rows.{compare_stands, of_compare_kept}
 pub use Rattle.proto_ops.specs.ProtoCompare.Say.{compare_job_say}
 pub use Rattle.proto_ops.specs.Rows.{of_operator_kept, operator_stands}
@@ -83,7 +83,7 @@ pub use Rattle.py_node.specs.Tree.{Text, Tree, tree_of}
 pub use Rattle.py_node.specs.declared.built_in.BuiltIn.{BuiltIn}
 pub use Rattle.py_node.specs.declared.built_in.BuiltIn.TheVariants.{Int, Str, TypeType}
 pub use Rattle.py_node.specs.declared.entry.NativeEntry.{NativeEntry}
-pub use Rattle.py_node.specs.declared.entry.NativeEntry.TheVariants.{Compare, Getter, GetterOf, NewOf, OfArithmetic, OfBits, OfCallable, OfDescriptor, OfDict, OfFixed, OfIterator, OfList, OfNumber, OfProperty, OfStr, OfSuper, OfTuple, OfWrapper, Setter, SetterOf}
+pub use Rattle.py_node.specs.declared.entry.NativeEntry.TheVariants.{Compare, Getter, GetterOf, NewOf, NewWrapper, OfArithmetic, OfBits, OfCallable, OfDescriptor, OfDict, OfFixed, OfIterator, OfList, OfNumber, OfProperty, OfStr, OfSuper, OfTuple, OfWrapper, Setter, SetterOf}
 pub use Rattle.py_node.specs.declared.expr.Command.{Command}
 pub use Rattle.py_node.specs.declared.memory.OutOfMemory.{OutOfMemory}
 pub use Rattle.py_node.specs.declared.raised.Cause.{Cause}

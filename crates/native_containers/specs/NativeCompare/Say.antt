@@ -4,13 +4,6 @@ use Rattle.py_node.specs.declared.built_in.BuiltIn.TheVariants as built_in
 use Rattle.row_kit.specs.declared.take_containers.Kind.TheVariants as kind
 use Rattle.native_containers.specs.NativeCompare.Containers.{sequences_say, dicts_say}
 
--- whether a native is one of these
-abbrev pub compares_items : NativeEntry → Bool
-compares_items (Compare built_in.Tuple n) = true
-compares_items (Compare built_in.List n) = true
-compares_items (Compare built_in.Dict n) = true
-compares_items _ = false
-
 abbrev pub compare_native_say : PlainWorld → NativeEntry → List PyObjectRef → Bindings → Row
 compare_native_say w (Compare built_in.Tuple n) args kw = sequences_say kind.Tuple w n args kw
 compare_native_say w (Compare built_in.List n) args kw = sequences_say kind.List w n args kw

@@ -8,19 +8,6 @@ use Rattle.row_kit.specs.declared.take_containers.Kind.TheVariants as kind
 use Rattle.native_containers.specs.NativeItems.Items.{tuple_get_item, list_get_item, str_get_item, list_set_item, list_del_item, contains, list_extend}
 use Rattle.native_containers.specs.NativeItems.Iterators.{iterator_next}
 
--- whether a native is one of these
-abbrev pub asks_for_items : NativeEntry → Bool
-asks_for_items (OfStr str.GetItem) = true
-asks_for_items (OfTuple tuple.GetItem) = true
-asks_for_items (OfTuple tuple.Contains) = true
-asks_for_items (OfList list.GetItem) = true
-asks_for_items (OfList list.SetItem) = true
-asks_for_items (OfList list.DelItem) = true
-asks_for_items (OfList list.Contains) = true
-asks_for_items (OfList list.InplaceAdd) = true
-asks_for_items (OfIterator iterator.Next) = true
-asks_for_items _ = false
-
 abbrev pub items_native_say : PlainWorld → NativeEntry → List PyObjectRef → Bindings → Row
 items_native_say w (OfStr str.GetItem) args kw = str_get_item w args kw
 items_native_say w (OfTuple tuple.GetItem) args kw = tuple_get_item w args kw

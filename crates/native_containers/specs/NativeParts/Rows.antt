@@ -11,8 +11,8 @@ use Rattle.row_kit.specs.Points.{Group, Point}
 use Rattle.native_containers.specs.declared.native_parts.PartsKept.{PartsKept}
 use Rattle.native_containers.specs.declared.native_parts.PartsKept.TheVariants.{Texts, Hashes, Wrapped, NewInt, NewBool, NewStr, NewTuple, Filling}
 use Rattle.native_containers.specs.declared.native_parts.hash.Hashing.{Hashing}
-use Rattle.native_containers.specs.declared.native_parts.take.Container.{Container}
-use Rattle.native_containers.specs.declared.native_parts.take.Container.TheVariants as container
+use Rattle.native_containers.specs.declared.native_parts.parts.Container.{Container}
+use Rattle.native_containers.specs.declared.native_parts.parts.Container.TheVariants as container
 use Rattle.native_containers.specs.declared.native_parts.texts.Parts.{Parts}
 use Rattle.native_containers.specs.declared.native_parts.wrapped.Wrapper.{Wrapper}
 use Rattle.native_containers.specs.declared.native_parts.wrapped.Wrapper.TheVariants.{Class, Static}

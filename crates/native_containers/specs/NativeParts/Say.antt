@@ -5,26 +5,11 @@ use Rattle.py_node.specs.declared.entry.TupleNative.TheVariants as tuple
 use Rattle.py_node.specs.declared.entry.ListNative.TheVariants as list
 use Rattle.py_node.specs.declared.entry.DictNative.TheVariants as dict
 use Rattle.py_node.specs.declared.entry.WrapperNative.TheVariants as wrapper
-use Rattle.native_containers.specs.declared.native_parts.take.Container.TheVariants as container
+use Rattle.native_containers.specs.declared.native_parts.parts.Container.TheVariants as container
 use Rattle.native_containers.specs.declared.native_parts.wrapped.Wrapper.TheVariants.{Class, Static}
 use Rattle.native_containers.specs.NativeParts.Texts.{tuple_hash, container_repr, wrapper_repr}
 use Rattle.native_containers.specs.NativeParts.Numbers.{int_new_say, bool_new_say}
 use Rattle.native_containers.specs.NativeParts.Makers.{str_new, tuple_new, list_init}
-
--- whether a native is one of these
-abbrev pub asks_for_parts : NativeEntry → Bool
-asks_for_parts (OfTuple tuple.Repr) = true
-asks_for_parts (OfTuple tuple.Hash) = true
-asks_for_parts (OfList list.Init) = true
-asks_for_parts (OfList list.Repr) = true
-asks_for_parts (OfDict dict.Repr) = true
-asks_for_parts (OfWrapper wrapper.ClassRepr) = true
-asks_for_parts (OfWrapper wrapper.StaticRepr) = true
-asks_for_parts (NewOf built_in.Int) = true
-asks_for_parts (NewOf built_in.Bool) = true
-asks_for_parts (NewOf built_in.Str) = true
-asks_for_parts (NewOf built_in.Tuple) = true
-asks_for_parts _ = false
 
 abbrev pub parts_native_say : PlainWorld → NativeEntry → List PyObjectRef → Bindings → Row
 parts_native_say w (OfTuple tuple.Repr) args kw = container_repr w container.Tuple args kw

@@ -4,8 +4,8 @@ use Rattle.std.specs.Prelude.{◌%◌, ◌*ℤ◌, ◌+ℤ◌, ◌==◌, ◌∷�
 use Rattle.row_kit.specs.declared.take_containers.Kind.TheVariants as kind
 use Rattle.native_containers.specs.NativeTexts.Say.{or_no_text}
 use Rattle.native_containers.specs.Asking.{taking_one}
-use Rattle.native_containers.specs.declared.native_parts.take.Container.{Container}
-use Rattle.native_containers.specs.declared.native_parts.take.Container.TheVariants as container
+use Rattle.native_containers.specs.declared.native_parts.parts.Container.{Container}
+use Rattle.native_containers.specs.declared.native_parts.parts.Container.TheVariants as container
 use Rattle.native_containers.specs.declared.native_parts.wrapped.Wrapper.{Wrapper}
 use Rattle.native_containers.specs.declared.native_parts.wrapped.Wrapper.TheVariants.{Class, Static}
 

@@ -7,7 +7,7 @@ ghost use Rattle.native_containers.specs.NativeCompare.Rows.{Compares, of_compar
 
 use crate::native_compare::ComparedKept;
 use crate::native_compare::turn::compare;
-use crate::take::own_and;
+use crate::receivers::own_and;
 use class_world::args::copy_args;
 use class_world::{Fixed, World};
 use py_node::{Answer, CompareNative, FuncArgs, OutOfMemory, PyObjectRef, Raised, Step};

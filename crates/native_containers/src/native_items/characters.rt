@@ -11,7 +11,7 @@ ghost use Rattle.native_containers.specs.NativeItems.Rows.{Enters, of_item_kept}
 
 use crate::native_items::ItemKept;
 use crate::native_items::places::{bounds, place_at, slice_of};
-use crate::native_texts::take::{text_and, text_of};
+use crate::native_texts::own_text::{text_and, text_of};
 use crate::native_texts::text_length;
 use class_world::{Fixed, World};
 use py_node::protocol::ProtocolTask;

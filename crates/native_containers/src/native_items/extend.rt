@@ -9,7 +9,7 @@ ghost use Rattle.native_containers.specs.NativeItems.Rows.{Does, Enters, items_s
 
 use crate::native_items::ItemKept;
 use crate::native_items::stood::stood;
-use crate::take::own_and;
+use crate::receivers::own_and;
 use class_world::World;
 use class_world::limits::is_within_limit;
 use py_node::protocol::ProtocolTask;

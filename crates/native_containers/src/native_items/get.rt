@@ -9,7 +9,7 @@ ghost use Rattle.native_containers.specs.NativeItems.Rows.{Does, Enters, getter_
 use crate::native_items::ItemKept;
 use crate::native_items::places::{part, place_at, slice_of};
 use crate::native_items::stood::{standing, stood};
-use crate::take::own_and;
+use crate::receivers::own_and;
 use class_world::World;
 use py_node::protocol::ProtocolTask;
 use py_node::task::Args;

@@ -6,7 +6,7 @@ ghost use Rattle.native_containers.specs.NativeItems.Iterators.{found_in, is_end
 ghost use Rattle.native_containers.specs.NativeItems.Rows.{Does, Enters, of_found, of_item_kept};
 
 use crate::native_items::ItemKept;
-use crate::take::lone;
+use crate::receivers::lone;
 use class_world::World;
 use class_world::args::alone;
 use py_node::{

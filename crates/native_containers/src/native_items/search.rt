@@ -8,7 +8,7 @@ ghost use Rattle.native_containers.specs.NativeItems.Rows.{Does, Enters, Resumes
 
 use crate::native_items::ItemKept;
 use crate::native_items::get::{Sequence, kind_of};
-use crate::take::own_and;
+use crate::receivers::own_and;
 use class_world::World;
 use class_world::args::copy_args;
 use py_node::task::Args;

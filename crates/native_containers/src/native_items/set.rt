@@ -13,7 +13,7 @@ use crate::made::{change_list, ends_none};
 use crate::native_items::ItemKept;
 use crate::native_items::places::{place_at, put_part, replace_part, slice_of};
 use crate::native_items::stood::stood;
-use crate::take::own_and_two;
+use crate::receivers::own_and_two;
 use class_world::World;
 use class_world::limits::is_within_limit;
 use py_node::protocol::ProtocolTask;

@@ -7,7 +7,7 @@ ghost use Rattle.native_containers.specs.NativeParts.Rows.{Goes, IsNoNumber, Res
 ghost use Rattle.native_containers.specs.NativeParts.Texts.{hash_row, hashed_on};
 
 use crate::native_parts::PartsKept;
-use crate::native_parts::take::{Container, lone, part_at, parts_of};
+use crate::native_parts::parts::{Container, lone, part_at, parts_of};
 use class_world::World;
 use py_node::task::Args;
 use py_node::{Answer, FuncArgs, ObjectTask, OutOfMemory, Raised, Step, Task};

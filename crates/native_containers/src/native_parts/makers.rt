@@ -8,7 +8,7 @@ ghost use Rattle.native_containers.specs.NativeParts.Makers.{list_filled};
 ghost use Rattle.native_containers.specs.NativeParts.Rows.{Resumes, Starts, of_parts_kept};
 
 use crate::native_parts::PartsKept;
-use crate::native_parts::take::{one_at_most, own_list, text_at};
+use crate::native_parts::parts::{one_at_most, own_list, text_at};
 use class_world::{Fixed, World};
 use py_node::protocol::ProtocolTask;
 use py_node::task::Args;

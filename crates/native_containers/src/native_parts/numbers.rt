@@ -6,7 +6,7 @@ ghost use Rattle.py_node.specs.declared.built_in.BuiltIn.TheVariants as built_in
 ghost use Rattle.native_containers.specs.NativeParts.Rows.{Resumes, Starts, of_parts_kept};
 
 use crate::native_parts::PartsKept;
-use crate::native_parts::take::one_at_most;
+use crate::native_parts::parts::one_at_most;
 use class_world::World;
 use py_node::protocol::ProtocolTask;
 use py_node::{

@@ -7,7 +7,7 @@ ghost use Rattle.native_containers.specs.NativeParts.Rows.{Goes, IsNoObject, Res
 ghost use Rattle.native_containers.specs.NativeParts.Texts.{before, closing, container_text, opening, text_at, text_ends, text_row, texts_at};
 
 use crate::native_parts::PartsKept;
-use crate::native_parts::take::{Container, lone, part_at, parts_of, text_at};
+use crate::native_parts::parts::{Container, lone, part_at, parts_of, text_at};
 use class_world::World;
 use class_world::limits::{MOST_ITEMS, is_within_limit};
 use py_node::task::Args;

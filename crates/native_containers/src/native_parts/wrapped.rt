@@ -7,7 +7,7 @@ ghost use Rattle.native_containers.specs.NativeParts.Rows.{Resumes, Starts, of_p
 ghost use Rattle.native_containers.specs.NativeParts.Texts.{text_at, wrapped_in, wrapper_name, wrapper_text};
 
 use crate::native_parts::PartsKept;
-use crate::native_parts::take::text_at;
+use crate::native_parts::parts::text_at;
 use class_world::World;
 use class_world::limits::is_within_limit;
 use class_world::takes::one;

@@ -4,7 +4,7 @@ ghost use Rattle.std.specs.Prelude.{◌≡◌};
 ghost use Rattle.native_containers.specs.Below.{Reading, bindings, of_ended, AllHold, AreNodes, Holds, EndsAs};
 ghost use Rattle.native_containers.specs.NativeTexts.Say.{compare_text_say, order_by};
 
-use crate::native_texts::take::{text_and, text_of};
+use crate::native_texts::own_text::{text_and, text_of};
 use class_world::{Fixed, World};
 use py_node::{Answer, Cause, CompareNative, FuncArgs, Raised};
 use std::cmp::Ordering;

@@ -6,7 +6,7 @@ ghost use Rattle.std.specs.Prelude.{◌≡◌};
 ghost use Rattle.native_containers.specs.NativeTexts.Say.{is_str, str_add, str_contains, str_hash, str_iter, str_len, str_repr, str_str, str_upper, text_say};
 
 use crate::native_texts::of_bytes::{repr_text, stands_in, text_hash, text_length};
-use crate::native_texts::take::{lone_text, text_and, text_of};
+use crate::native_texts::own_text::{lone_text, text_and, text_of};
 use class_world::World;
 use py_node::{Answer, BuiltIn, Cause, FuncArgs, PyObjectRef, Raised, Stop, StrNative};
 use row_kit::class_names::limited_text;

@@ -4,18 +4,18 @@ use Rattle.std.proofs.Common.{◌≡◌}
 use Rattle.std.specs.Prelude.{Option}
 use Rattle.class_world.specs.Rows as rows
 use Rattle.py_node.specs.declared.task.DescriptorTask.TheVariants as descriptor
-use Rattle.proto_attr.specs.ProtoDescr.Rows.{EndsAs}
+use Rattle.proto_attr.specs.ProtoDescr.Rows.{EndsSaid}
 
 ends-so : (s : Said) (r : Result Answer Fault) (new : PlainWorld) → EndsSo s r new → s ≡ Ends new (ended_of r)
 ends-so (Asks w learnt task) r new h = absurd h
 ends-so (Ends w s) r new h = ap₂ (λ (u : PlainWorld) (e : Ended). Ends u e) (sym h.1) (sym h.0)
 
 -- what a descriptor's row ends with, a native ends with
-pub descriptor-ends : (said : Reading → PlainWorld → Said) (old new : World) (r : Result Answer Fault) → EndsAs said old new r → rows.EndsAs said old new r
+pub descriptor-ends : (said : Reading → PlainWorld → Said) (old new : World) (r : Result Answer Fault) → EndsSaid said old new r → rows.EndsSaid said old new r
 descriptor-ends said old new r h = λ t reads.
     let e = h t reads in (e.0, ends-so (said t (plain t old)) r (plain t new) e.1)
 
-pub closes-starts : (task : DescriptorTask) (said other : Reading → PlainWorld → Said) (old new : World) (r : Result Answer Fault) → ((t : Reading) → Reads t old → said t (plain t old) ≡ other t (plain t old)) → EndsAs other old new r → Starts task said old new (End r)
+pub closes-starts : (task : DescriptorTask) (said other : Reading → PlainWorld → Said) (old new : World) (r : Result Answer Fault) → ((t : Reading) → Reads t old → said t (plain t old) ≡ other t (plain t old)) → EndsSaid other old new r → Starts task said old new (End r)
 closes-starts task said other old new r same closes =
     let row = λ (t : Reading). descriptor_group.row t task in
     read-follows descriptor_group row said old new other (End r) same (ends-follow descriptor_group row other old new r (descriptor-ends other old new r closes))
@@ -32,7 +32,7 @@ passed-resumes k f r old new (Ask asked kept) h = asks-follow descriptor_group (
 passed-resumes k f r old new (End s) h = ends-follow descriptor_group (λ t. descriptor_group.stands t (AfterGet k f) (ended_of r)) (λ t w. class_method_by w k f (ended_of r)) old new s h
 
 -- and one that goes on where nothing is kept, and ends as it was told
-pub told-row : (r : Result Answer Fault) (old new : World) (s : Result Answer Fault) → rows.EndsAs (λ t u. named_end u (ended_of r) []) old new s → Resumes Pass r old new (End s)
+pub told-row : (r : Result Answer Fault) (old new : World) (s : Result Answer Fault) → rows.EndsSaid (λ t u. named_end u (ended_of r) []) old new s → Resumes Pass r old new (End s)
 told-row r old new s h = ends-follow descriptor_group (λ t. descriptor_group.stands t Pass (ended_of r)) (λ t u. named_end u (ended_of r) []) old new s h
 
 -- a row that sets: it begins with such a step, and then is done

@@ -13,15 +13,6 @@ wrapped_in Class (Some (AClassMethod f)) = Some f
 wrapped_in Static (Some (AStaticMethod f)) = Some f
 wrapped_in b d = None
 
--- all but what it wraps is read of that
-abbrev pub reads_wrapped : Detail → Bool
-reads_wrapped detail.Module = true
-reads_wrapped detail.Qualname = true
-reads_wrapped detail.Name = true
-reads_wrapped detail.Annotations = true
-reads_wrapped detail.IsAbstract = true
-reads_wrapped d = false
-
 -- the name under which the callable is asked for a part
 abbrev pub asked_name : Detail → Known
 asked_name detail.Module = known.Module

@@ -16,7 +16,7 @@ use Rattle.proto_attr.specs.declared.native_calls.way.Wrapper.{Wrapper}
 use Rattle.proto_attr.specs.declared.native_calls.way.Wrapper.TheVariants.{Class, Static}
 use Rattle.proto_attr.specs.declared.native_calls.way.Way.{Way}
 use Rattle.proto_attr.specs.declared.native_calls.way.Way.TheVariants.{Binds, Sets, Deletes, Wraps, Makes, Calls, Looks, Starts, Reads, Marked, Marks}
-use Rattle.proto_attr.specs.NativeCalls.Parts.{mark_by_name, or_not_abstract, part_of_wrapped, reads_wrapped, with_get}
+use Rattle.proto_attr.specs.NativeCalls.Parts.{mark_by_name, or_not_abstract, part_of_wrapped, with_get}
 use Rattle.proto_attr.specs.ProtoDescr.Say.{class_of_option, function_get, native_get, getset_get, getset_set, class_for, class_method_get, class_method_by, static_method_get, start_with}
 use Rattle.proto_attr.specs.ProtoDescr.Members.{member_get, member_set}
 use Rattle.proto_attr.specs.ProtoDescr.Properties.{property_get, property_set}
@@ -186,33 +186,6 @@ wrapper_made w c d (Ok a) = Ends w (Ok a)
 
 abbrev pub wrapper_rest : PlainWorld → Wrapper → ℕ → PyObjectRef → Ended → Row
 wrapper_rest w b c f r = build w (wrapper_made w c (wrapping b f) r) (λ new s. on_done w s (end w (value new)))
-
--- whether a native is one of these
-abbrev pub asks : NativeEntry → Bool
-asks (OfCallable callable.ReprMethodDescriptor) = false
-asks (OfCallable n) = true
-asks (OfDescriptor descriptor.GetSetGet) = true
-asks (OfDescriptor descriptor.GetSetSet) = true
-asks (OfDescriptor descriptor.GetSetDelete) = true
-asks (OfDescriptor descriptor.MemberGet) = true
-asks (OfDescriptor descriptor.MemberSet) = true
-asks (OfDescriptor descriptor.MemberDelete) = true
-asks (OfProperty property.Get) = true
-asks (OfProperty property.Set) = true
-asks (OfProperty property.Delete) = true
-asks (OfSuper super.Init) = true
-asks (OfSuper super.GetAttribute) = true
-asks (OfSuper super.Get) = true
-asks (OfWrapper wrapper.ClassGet) = true
-asks (OfWrapper wrapper.StaticGet) = true
-asks (OfWrapper wrapper.StaticCall) = true
-asks (NewOf ClassMethod) = true
-asks (NewOf StaticMethod) = true
-asks NewWrapper = true
-asks (GetterOf ClassMethod d) = reads_wrapped d
-asks (GetterOf StaticMethod d) = reads_wrapped d
-asks (SetterOf b detail.IsAbstract) = true
-asks _ = false
 
 -- what it does
 abbrev pub way_of : NativeEntry → Way

@@ -5,12 +5,6 @@ use Rattle.py_node.specs.declared.built_in.BuiltIn.TheVariants as built_in
 use Rattle.py_node.specs.declared.known.Known.TheVariants as known
 use Rattle.proto_attr.specs.NativeObjects.Takes.{property_in}
 
--- whether a native is one of these
-abbrev pub asks_for_details : NativeEntry → Bool
-asks_for_details (GetterOf built_in.Property IsAbstract) = true
-asks_for_details (GetterOf built_in.MemberDescriptor Qualname) = true
-asks_for_details _ = false
-
 -- whether a property is abstract
 
 -- an accessor says itself whether it is. One that can't tell is not, nor is one that is missing

@@ -52,8 +52,8 @@ EndsSo (Asks w learnt task) s new = ⊥
 EndsSo (Ends w r) s new = (ended_of s ≡ r) × (new ≡ w)
 
 -- a row is said to end, and ends so, however the numbers are read
-abbrev pub EndsAs : (Reading → PlainWorld → Said) → World → World → Result Answer Fault → Type 0
-EndsAs said old new r = (t : Reading) → Reads t new → Reads t old × EndsSo (said t (plain t old)) r (plain t new)
+abbrev pub EndsSaid : (Reading → PlainWorld → Said) → World → World → Result Answer Fault → Type 0
+EndsSaid said old new r = (t : Reading) → Reads t new → Reads t old × EndsSo (said t (plain t old)) r (plain t new)
 
 -- a step that keeps nothing asks a task and ends as that does, or ends
 abbrev pub step_said : Reading → World → Step Unit → Said

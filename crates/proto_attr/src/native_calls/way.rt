@@ -1,8 +1,7 @@
 //! What each native does that asks.
 
 ghost use Rattle.std.specs.Prelude.{◌≡◌};
-ghost use Rattle.proto_attr.specs.NativeCalls.Parts.{reads_wrapped};
-ghost use Rattle.proto_attr.specs.NativeCalls.Say.{asks, way_of};
+ghost use Rattle.proto_attr.specs.NativeCalls.Say.{way_of};
 
 use py_node::{
     BuiltIn, CallableNative, DescriptorNative, Detail, NativeEntry, PropertyNative, SuperNative,
@@ -57,48 +56,6 @@ pub enum Way {
     Wraps(Wrapper),
     Makes,
     Calls,
-}
-
-/// Whether a native is one that asks.
-pub fn asks(entry: NativeEntry) -> bool
-    ensures { result ≡ asks entry }
-{
-    match entry {
-        NativeEntry::OfCallable(CallableNative::ReprMethodDescriptor) => false,
-        NativeEntry::OfCallable(_) => true,
-        NativeEntry::OfDescriptor(DescriptorNative::GetSetGet) => true,
-        NativeEntry::OfDescriptor(DescriptorNative::GetSetSet) => true,
-        NativeEntry::OfDescriptor(DescriptorNative::GetSetDelete) => true,
-        NativeEntry::OfDescriptor(DescriptorNative::MemberGet) => true,
-        NativeEntry::OfDescriptor(DescriptorNative::MemberSet) => true,
-        NativeEntry::OfDescriptor(DescriptorNative::MemberDelete) => true,
-        NativeEntry::OfProperty(PropertyNative::Get) => true,
-        NativeEntry::OfProperty(PropertyNative::Set) => true,
-        NativeEntry::OfProperty(PropertyNative::Delete) => true,
-        NativeEntry::OfSuper(SuperNative::Init) => true,
-        NativeEntry::OfSuper(SuperNative::GetAttribute) => true,
-        NativeEntry::OfSuper(SuperNative::Get) => true,
-        NativeEntry::OfWrapper(WrapperNative::ClassGet) => true,
-        NativeEntry::OfWrapper(WrapperNative::StaticGet) => true,
-        NativeEntry::OfWrapper(WrapperNative::StaticCall) => true,
-        NativeEntry::NewOf(BuiltIn::ClassMethod) => true,
-        NativeEntry::NewOf(BuiltIn::StaticMethod) => true,
-        NativeEntry::NewWrapper => true,
-        NativeEntry::GetterOf(BuiltIn::ClassMethod, detail) => reads_wrapped(detail),
-        NativeEntry::GetterOf(BuiltIn::StaticMethod, detail) => reads_wrapped(detail),
-        NativeEntry::SetterOf(_, Detail::IsAbstract) => true,
-        _ => false,
-    }
-}
-
-// Of a class method or a static method all but what it wraps is read of that.
-fn reads_wrapped(detail: Detail) -> bool
-    ensures { result ≡ reads_wrapped detail }
-{
-    matches!(
-        detail,
-        Detail::Module | Detail::Qualname | Detail::Name | Detail::Annotations | Detail::IsAbstract
-    )
 }
 
 // What it does.

@@ -5,7 +5,7 @@ ghost use Rattle.proto_attr.specs.Below.{Err, IfOk, option_map, string_bytes, of
 ghost use Rattle.std.specs.Prelude.{◌≡◌, ◌∷◌};
 ghost use Rattle.proto_attr.specs.NativeObjects.Descriptors.{callable_say, descriptor_native_say, super_say, wrapper_say, method_repr, member_repr, method_text, member_text, bound_text, super_repr, super_text, static_init};
 
-use crate::native_objects::take::{own_member, own_method, own_static, own_super};
+use crate::native_objects::receivers::{own_member, own_method, own_static, own_super};
 use class_world::takes::{one, two};
 use class_world::{Fixed, World};
 use py_node::{

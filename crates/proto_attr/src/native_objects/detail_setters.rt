@@ -4,7 +4,7 @@ ghost use Rattle.py_node.specs.Stops.{Ended};
 ghost use Rattle.proto_attr.specs.Below.{of_ended, bindings, EndsAs, LeavesEnd, AllHold, AreNodes, Grows, Holds};
 ghost use Rattle.proto_attr.specs.NativeObjects.DetailSetters.{set_of_property, setter_of_say};
 
-use crate::native_objects::take::{one_or_two, own_property};
+use crate::native_objects::receivers::{one_or_two, own_property};
 use class_world::{Fixed, World};
 use py_node::{Answer, BuiltIn, Cause, Detail, FuncArgs, PyProperty, Raised, Stop};
 

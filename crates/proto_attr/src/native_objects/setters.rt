@@ -7,7 +7,7 @@ ghost use Rattle.proto_attr.specs.NativeObjects.Setters.{class_written, is_dict,
 
 use crate::native_objects::class_setters::{set_annotations, set_module, set_name, set_qualname};
 use crate::native_objects::rebase::set_bases;
-use crate::native_objects::take::{class_and_given, one_or_two};
+use crate::native_objects::receivers::{class_and_given, one_or_two};
 use class_world::{Fixed, World};
 use py_node::{Answer, Cause, FuncArgs, Payload, Property, PyObjectRef, PyTypeRef, Raised, Stop};
 

@@ -6,7 +6,7 @@ ghost use Rattle.proto_attr.specs.Below.{Option, Some, IfOk, raised, AllHold, Gr
 ghost use Rattle.std.specs.Prelude.{◌≡◌, ◌∷◌, ◌++◌};
 ghost use Rattle.py_node.specs.declared.task.DescriptorTask.TheVariants as descriptor;
 ghost use Rattle.proto_attr.specs.ProtoDescr.Say.{descr_get_by, function_get, is_object_none, class_of_option, or_none, is_none_type, object_get, class_get, static_get, native_get};
-ghost use Rattle.proto_attr.specs.ProtoDescr.Rows.{Begins, Starts, EndsAs, number, described, native_of, bound_as, of_descriptor_kept};
+ghost use Rattle.proto_attr.specs.ProtoDescr.Rows.{Begins, Starts, EndsSaid, number, described, native_of, bound_as, of_descriptor_kept};
 
 use crate::proto_descr::DescriptorKept;
 use crate::proto_descr::member::get_of_member;
@@ -93,7 +93,7 @@ pub fn bind_function(
     class: Option<PyObjectRef>,
 ) -> Result<Answer, Stop>
     requires { AllHold world.old (of_descriptor_task (descriptor.DescrGet m o class)) }
-    ensures goes { Ended result (EndsAs (λ t w. function_get w m o (class_of_option w class)) world.old world.new) }
+    ensures goes { Ended result (EndsSaid (λ t w. function_get w m o (class_of_option w class)) world.old world.new) }
     ensures grows { Grows world.old world.new }
     ensures safe { Ended result (λ r. AllHold world.new (of_ended r)) }
 {
@@ -109,7 +109,7 @@ pub fn bind_native(
     class: Option<PyObjectRef>,
 ) -> Result<Answer, Stop>
     requires { AllHold world.old (of_descriptor_task (descriptor.DescrGet m o class)) }
-    ensures goes { Ended result (EndsAs (λ t w. native_get w (datum_at w m) m o class) world.old world.new) }
+    ensures goes { Ended result (EndsSaid (λ t w. native_get w (datum_at w m) m o class) world.old world.new) }
     ensures grows { Grows world.old world.new }
     ensures safe { Ended result (λ r. AllHold world.new (of_ended r)) }
 {
@@ -169,7 +169,7 @@ fn function_get(
     class: Option<PyTypeRef>,
 ) -> Result<Answer, Stop>
     requires { AllHold world.old (IsNode m ∷ of_option of_node_ref o) }
-    ensures goes { Ended result (EndsAs (λ t w. function_get w m o (number class)) world.old world.new) }
+    ensures goes { Ended result (EndsSaid (λ t w. function_get w m o (number class)) world.old world.new) }
     ensures grows { Grows world.old world.new }
     ensures safe { Ended result (λ r. AllHold world.new (of_ended r)) }
 {
@@ -230,7 +230,7 @@ fn native_get(
 ) -> Result<Answer, Stop>
     requires native { AllHold world.old (of_option native_of native) }
     requires task { AllHold world.old (of_descriptor_task (descriptor.DescrGet m o class)) }
-    ensures goes { Ended result (EndsAs (λ t w. native_get w (described t native) m o class) world.old world.new) }
+    ensures goes { Ended result (EndsSaid (λ t w. native_get w (described t native) m o class) world.old world.new) }
     ensures grows { Grows world.old world.new }
     ensures safe { Ended result (λ r. AllHold world.new (of_ended r)) }
 {
@@ -260,7 +260,7 @@ fn object_get(
 ) -> Result<Answer, Stop>
     requires native { AllHold world.old (native_of native) }
     requires task { AllHold world.old (IsNode m ∷ of_option of_node_ref o) }
-    ensures goes { Ended result (EndsAs (λ t w. object_get w m (bound_as t w native) o (number class)) world.old world.new) }
+    ensures goes { Ended result (EndsSaid (λ t w. object_get w m (bound_as t w native) o (number class)) world.old world.new) }
     ensures grows { Grows world.old world.new }
     ensures safe { Ended result (λ r. AllHold world.new (of_ended r)) }
 {
@@ -282,7 +282,7 @@ fn class_get(
 ) -> Result<Answer, Stop>
     requires native { AllHold world.old (native_of native) }
     requires task { AllHold world.old (of_option of_node_ref o ++ of_option of_node_ref class) }
-    ensures goes { Ended result (EndsAs (λ t w. class_get w (bound_as t w native) o class) world.old world.new) }
+    ensures goes { Ended result (EndsSaid (λ t w. class_get w (bound_as t w native) o class) world.old world.new) }
     ensures grows { Grows world.old world.new }
     ensures safe { Ended result (λ r. AllHold world.new (of_ended r)) }
 {
@@ -324,7 +324,7 @@ fn bound_native(
 ) -> Result<Answer, Stop>
     requires native { AllHold world.old (native_of native) }
     requires target { Holds world.old (IsNode target) }
-    ensures goes { Ended result (EndsAs (λ t w. bound_as t w native target) world.old world.new) }
+    ensures goes { Ended result (EndsSaid (λ t w. bound_as t w native target) world.old world.new) }
     ensures grows { Grows world.old world.new }
     ensures safe { Ended result (λ r. AllHold world.new (of_ended r)) }
 {

@@ -8,7 +8,7 @@ ghost use Rattle.proto_attr.specs.ProtoDescr.Members.{member_get, member_set, or
 ghost use Rattle.proto_attr.specs.ProtoDescr.Rows.{Starts, StepsAs, nothing_held, of_descriptor_kept};
 
 use crate::proto_descr::DescriptorKept;
-use crate::proto_descr::setting::set_by_native;
+use crate::proto_descr::descr_set::set_by_native;
 use crate::proto_descr::wrapped::passed;
 use class_world::World;
 use class_world::args::alone;

@@ -7,7 +7,7 @@ ghost use Rattle.std.specs.Prelude.{◌≡◌};
 ghost use Rattle.py_node.specs.declared.payload.Payload.TheVariants as payload;
 ghost use Rattle.py_node.specs.declared.task.DescriptorTask.TheVariants as descriptor;
 ghost use Rattle.proto_attr.specs.ProtoDescr.Supers.{init_with, parts_of_body, super_parts, with_super};
-ghost use Rattle.proto_attr.specs.ProtoDescr.Rows.{Begins, EndsAs, Initialises, Resumes, bound_to, of_descriptor_kept, of_parts, parts_of};
+ghost use Rattle.proto_attr.specs.ProtoDescr.Rows.{Begins, EndsSaid, Initialises, Resumes, bound_to, of_descriptor_kept, of_parts, parts_of};
 
 use crate::proto_descr::DescriptorKept;
 use crate::proto_descr::super_start::Unbound;
@@ -112,7 +112,7 @@ fn init_with(
 fn set_super(world: &mut World, s: PyObjectRef, parts: PySuper) -> Result<Answer, Stop>
     requires object { Holds world.old (IsNode s) }
     requires parts { AllHold world.old (of_payload (payload.Super parts)) }
-    ensures goes { Ended result (EndsAs (λ t w. with_super w s parts.typ.0 (bound_to parts)) world.old world.new) }
+    ensures goes { Ended result (EndsSaid (λ t w. with_super w s parts.typ.0 (bound_to parts)) world.old world.new) }
     ensures grows { Grows world.old world.new }
     ensures safe { Ended result (λ r. AllHold world.new (of_ended r)) }
 {

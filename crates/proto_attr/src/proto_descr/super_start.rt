@@ -6,7 +6,7 @@ ghost use Rattle.proto_attr.specs.Below.{[], Option, IfOk, class_at, datum_at, r
 ghost use Rattle.std.specs.Prelude.{◌≡◌, ◌∷◌};
 ghost use Rattle.py_node.specs.declared.task.DescriptorTask.TheVariants as descriptor;
 ghost use Rattle.proto_attr.specs.ProtoDescr.Supers.{check_class, super_bound, super_get};
-ghost use Rattle.proto_attr.specs.ProtoDescr.Rows.{Begins, EndsAs, Resumes, Starts, of_descriptor_kept, of_parts, super_asked};
+ghost use Rattle.proto_attr.specs.ProtoDescr.Rows.{Begins, EndsSaid, Resumes, Starts, of_descriptor_kept, of_parts, super_asked};
 
 use crate::proto_descr::DescriptorKept;
 use class_world::{Fixed, World};
@@ -136,7 +136,7 @@ pub fn bind_super(
 ) -> Result<Answer, Stop>
     requires kept { AllHold world.old (IsClass class.0 ∷ IsNode object ∷ []) }
     requires answer { AllHold world.old (of_ended answer) }
-    ensures goes { Ended result (EndsAs (λ t w. super_bound w (ref class.0) object (ended_of answer))
+    ensures goes { Ended result (EndsSaid (λ t w. super_bound w (ref class.0) object (ended_of answer))
         world.old world.new) }
     ensures grows { Grows world.old world.new }
     ensures safe { Ended result (λ r. AllHold world.new (of_ended r)) }

@@ -1,6 +1,7 @@
 -- Calls whose arguments are evaluated in order.
-use Rattle.proto_call.proofs.Below.{ℕ, zero, suc, List, [], length, map, take, Some, None, true, refl, sym, ap, ◌∙◌, subst, arith, length-append, slice_get, Result, Vec, eqb-true, ltb-true, lt-ltb, map-append, length-map, take_all, slice_get_within, PyObjectRef, Raised as Fault, Answer, Form, Step, Ask, End, Text, Tree, list_of, entry_trees, PlainWorld, Told, Row, start, pass, end, evaluate, Held, Reading, Reads, entry_list, form_tree, spelled, plain, ended_of, Holds, AllHold, AreNames, IsExpression, HasForm, of_form, got-map, World, Arguments, Called, entry_names, given_say, Goes, answered, args_of, keywords_of, positional, named, called_task, eval_stands, arguments, arguments_at, has_argument, IsOther, Resumes, EvalKept, OutOfMemory, IfOk, Ok, Err, Value, Method, PyMethod, Load, Point, value, eval_group, arguments_row, arguments_say, invoke_say, on_method, asks-follow, ends-follow, goes-as, goes-read}
+use Rattle.proto_call.proofs.Below.{ℕ, zero, suc, List, [], length, map, take, Some, None, true, refl, sym, ap, ◌∙◌, subst, arith, length-append, slice_get, Result, Vec, eqb-true, ltb-true, lt-ltb, map-append, length-map, take_all, slice_get_within, PyObjectRef, Raised as Fault, Answer, Form, Step, Ask, End, Text, Tree, list_of, entry_trees, PlainWorld, Told, Row, start, pass, end, evaluate, Held, Reading, Reads, entry_list, form_tree, spelled, plain, ended_of, Holds, AllHold, AreNames, IsExpression, HasForm, of_form, got-map, World, Arguments, Called, entry_names, given_say, Goes, answered, args_of, keywords_of, positional, named, called_task, eval_stands, arguments, arguments_at, has_argument, IsOther, Resumes, EvalKept, OutOfMemory, IfOk, Ok, Err, Value, Method, PyMethod, Load, Point, value, eval_group, arguments_row, arguments_say, call_say, callee_say, invoke_say, on_method, attribute, Trees, asks-follow, ends-follow, goes-as, goes-read}
 use Rattle.std.proofs.Common.{◌≡◌, ◌==◌, ◌≤◌, ◌∷◌, ◌++◌}
+use Rattle.py_node.specs.Tree.{Entries}
 use Rattle.py_node.specs.declared.task.PyMethod.TheVariants as method
 use Rattle.py_node.specs.declared.payload.Form.TheVariants as form
 use Rattle.py_node.specs.declared.task.Task.TheVariants as task
@@ -98,6 +99,15 @@ pub argument-first : (w : World) (e : ℕ) (c : Called) (vs : Vec PyObjectRef) (
 argument-first w e c vs row (Ok step) none same h =
     goes-read eval_group (λ t. arguments_row (t.tree e) c vs.items) row w w step (λ t q u more. same t q u more ∙ ap (λ l. arguments_say u (args_of (t.tree e)) (keywords_of (t.tree e)) (called_task c) (map answered l ++ more)) (sym none)) h
 argument-first w e c vs row (Err x) none same h = tt
+
+-- what is no attribute is called
+callee-plain : (text : ℕ → Text) (tree : ℕ → Tree) (f : Form) (u : PlainWorld) (es : Trees) (kw : Entries) (v : PyObjectRef) (more : Told) → attribute f ≡ None → callee_say u (form_tree text tree f) es kw v more ≡ call_say u es kw v more
+callee-plain text tree (form.Attr o x) u es kw v more bare = cc
+callee-plain text tree _ u es kw v more bare = refl
+
+pub call-first : (w : World) (e g : ℕ) (f : Form) (v : PyObjectRef) (vs : Vec PyObjectRef) (r : Result (Step EvalKept) OutOfMemory) → slice_get w.forms g ≡ Some f → attribute f ≡ None → vs.items ≡ [] → IfOk r (λ step. Goes (λ t. arguments_row (t.tree e) (called.Object v) vs.items) w w step) → IfOk r (λ step. Goes (λ t u. callee_say u (t.tree g) (args_of (t.tree e)) (keywords_of (t.tree e)) v) w w step)
+call-first w e g f v vs r stored bare none h =
+    argument-first w e (called.Object v) vs (λ t u. callee_say u (t.tree g) (args_of (t.tree e)) (keywords_of (t.tree e)) v) r none (λ t q u more. ap (λ x. callee_say u x (args_of (t.tree e)) (keywords_of (t.tree e)) v more) (q.trees g f stored) ∙ callee-plain t.text t.tree f u (args_of (t.tree e)) (keywords_of (t.tree e)) v more bare) h
 
 pub method-first : (w : World) (e : ℕ) (m : PyMethod) (vs : Vec PyObjectRef) (s : Result Answer Fault) (r : Result (Step EvalKept) OutOfMemory) → s ≡ Ok (Method m) → vs.items ≡ [] → IfOk r (λ step. Goes (λ t. arguments_row (t.tree e) (called.Method m) vs.items) w w step) → IfOk r (λ step. Resumes (Load e) s w w step)
 method-first w e m vs s r given none h =

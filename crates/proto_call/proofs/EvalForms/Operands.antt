@@ -1,7 +1,8 @@
 -- Expressions whose operands are evaluated in order.
-use Rattle.proto_call.proofs.Below.{ℕ, zero, suc, List, [], length, map, Some, None, Ok, Err, refl, sym, ap, ◌∙◌, arith, length-append, slice_get, Result, IfOk, Vec, ltb-true, lt-ltb, map-append, length-map, slice_get_within, PyObjectRef, PyStrInterned, OutOfMemory, Raised as Fault, Answer, Value, Done, Number, Truth, Maybe, Objects, Exhausted, Method, Start, Form, Text, Tree, trees_of, list_of, entry_trees, PlainWorld, DoEval, ToEval, Answered, Told, Asks, Ends, Row, on_value, evaluate, Held, Reading, Reads, form_tree, entry_list, stored_entries, spelled, plain, ended_of, Holds, AllHold, IsName, AreNames, AreNodes, IsExpression, AreExpressions, HasForm, of_form, of_node_ref, of_option, expression-in, got-map, node-in, Step, Ask, End, World, EvalKept, Operands, Word, Kind, one_of, op_say, operand_trees, own_say, func_say, tuple_say, list_say, set_attr_say, del_attr_say, attr_say, called_say, if_say, seq_say, raise_say, class_say, entry_names, eval_say, two_of, answered, eval_stands, Continues, EndsRow, HasValues, IsOther, IsOwn, operands, operands_at, has_operand, evaluated_tree, args_of, keywords_of, Goes, Resumes, eval_group, operands_row, value, asks-follow, ends-follow, goes-as, goes-read, subst}
+use Rattle.proto_call.proofs.Below.{ℕ, zero, suc, List, [], length, map, Some, None, Ok, Err, refl, sym, ap, ◌∙◌, arith, length-append, slice_get, Result, IfOk, Vec, ltb-true, lt-ltb, map-append, length-map, slice_get_within, PyObjectRef, PyStrInterned, OutOfMemory, Raised as Fault, Answer, Value, Done, Number, Truth, Maybe, Objects, Exhausted, Method, Start, Form, Text, Tree, trees_of, list_of, entry_trees, PlainWorld, DoEval, ToEval, Answered, Told, Asks, Ends, Row, on_value, evaluate, Held, Reading, Reads, form_tree, entry_list, stored_entries, spelled, plain, ended_of, Holds, AllHold, IsName, AreNames, AreNodes, IsExpression, AreExpressions, HasForm, of_form, of_node_ref, of_option, expression-in, got-map, node-in, Step, Ask, End, World, EvalKept, Operands, Word, Kind, one_of, op_say, operand_trees, own_say, func_say, tuple_say, list_say, set_attr_say, del_attr_say, attr_say, called_say, if_say, seq_say, raise_say, class_say, entry_names, eval_say, two_of, answered, eval_stands, Continues, EndsRow, HasValues, IsOther, IsOwn, operands, operands_at, has_operand, evaluated_tree, args_of, keywords_of, Goes, Resumes, eval_group, operands_row, value, asks-follow, ends-follow, goes-as, goes-read, subst, TConst, const_say, literal_of}
 use Rattle.std.proofs.Common.{◌≡◌, ◌+◌, ◌<◌, ◌≤◌, ◌∷◌, ◌++◌}
 use Rattle.std.specs.Prelude.{Bool}
+use Rattle.py_node.specs.declared.expr.Constant.{Constant}
 use Rattle.py_node.specs.declared.task.PyMethod.TheVariants as method
 use Rattle.py_node.specs.declared.payload.Form.TheVariants as form
 use Rattle.py_node.specs.declared.task.Task.TheVariants as task
@@ -219,6 +220,18 @@ pub own-func : (w new : World) (e : ℕ) (f : Form) (vs : List PyObjectRef) (x :
 own-func w new e f vs x ps rest b (Ok step) h l o k =
     own-closes w new e f vs (λ t u. func_say u (t.text x.0) (map (λ p. t.text p.0) ps.items) rest (t.tree b)) step h l (says-func x ps rest b vs f o) k
 own-func w new e f vs x ps rest b (Err out) h l o k = tt
+
+-- a constant
+says-const : (k : Constant) (vs : List PyObjectRef) (f : Form) → IsOwn (own.Const k) f → (t : Reading) (u : PlainWorld) (more : Told) → own_say u (form_tree t.text t.tree f) vs more ≡ operands_row (TConst (literal_of k)) [] u more
+unfolding eval_say
+says-const k vs (form.Const j) o t u more = ap (λ z. const_say u z more) (sym o)
+says-const k vs _ o t u more = absurd o
+
+pub own-const : (w new : World) (e : ℕ) (f : Form) (vs : List PyObjectRef) (k : Constant) (r : Result (Step EvalKept) OutOfMemory) → slice_get w.forms e ≡ Some f → length (operands f) ≡ length vs → IsOwn (own.Const k) f
+    → IfOk r (λ step. Goes (λ t. operands_row (TConst (literal_of k)) []) w new step) → IfOk r (λ step. Continues e vs w new step)
+own-const w new e f vs k (Ok step) h l o g =
+    own-takes w new e f vs (λ t. operands_row (TConst (literal_of k)) []) step h l (says-const k vs f o) g
+own-const w new e f vs k (Err out) h l o g = tt
 
 -- a tuple and a list
 says-tuple : (vs : List PyObjectRef) (f : Form) → IsOwn own.Tuple f → (t : Reading) (u : PlainWorld) → own_say u (form_tree t.text t.tree f) vs [] ≡ tuple_say u vs []

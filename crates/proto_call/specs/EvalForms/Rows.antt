@@ -62,11 +62,11 @@ eval_stands t (Count k o) r w = counted_by w k o r
 eval_stands t (Start p o j) r w = part_start w p o j r
 eval_stands t (Stop p o i) r w = part_stop w p o (value i) r
 eval_stands t (Branch a b) r w = branch_say w (t.tree a) (t.tree b) r
-eval_stands t (Operands e vs) r w told = operands_row (t.tree e) vs.items w (Answered r ∷ told)
+eval_stands t (Operands e vs) r w = λ told. operands_row (t.tree e) vs.items w (Answered r ∷ told)
 eval_stands t (Load e) r w = on_method w r (invoke_say w (args_of (t.tree e)) (keywords_of (t.tree e)))
-eval_stands t (Arguments e f vs) r w told = arguments_row (t.tree e) f vs.items w (Answered r ∷ told)
-eval_stands t (Key e es) r w told = pairs_row (t.tree e) es.items w (Answered r ∷ told)
-eval_stands t (OfKey e es k) r w told = pairs_row (t.tree e) es.items w (answered k ∷ Answered r ∷ told)
+eval_stands t (Arguments e f vs) r w = λ told. arguments_row (t.tree e) f vs.items w (Answered r ∷ told)
+eval_stands t (Key e es) r w = λ told. pairs_row (t.tree e) es.items w (Answered r ∷ told)
+eval_stands t (OfKey e es k) r w = λ told. pairs_row (t.tree e) es.items w (answered k ∷ Answered r ∷ told)
 
 -- the operands of an expression of the store, in order
 abbrev pub operands : Form → List ℕ

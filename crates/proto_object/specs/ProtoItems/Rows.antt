@@ -17,7 +17,7 @@ items_stands t Ending r w = ends_done w r
 items_stands t Loaded r w = on_method w r (λ target f. ask w (ToAttribute (DoInvoke target f [] [])) (λ s. on_value w s (listed w)))
 items_stands t Invoked r w = on_value w r (listed w)
 items_stands t Iterating r w = on_iterable w r (λ it. all_items w it [] (λ rs. make w the_list (AList rs)))
-items_stands t (Gathering it rs) r w told = all_items w it rs.items (λ rs. make w the_list (AList rs)) (Answered r ∷ told)
+items_stands t (Gathering it rs) r w = λ told. all_items w it rs.items (λ rs. make w the_list (AList rs)) (Answered r ∷ told)
 
 -- an item that an iteration gives, or that it gives no more
 abbrev pub item_answer : Option PyObjectRef → Result Answer Fault

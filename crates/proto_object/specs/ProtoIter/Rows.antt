@@ -54,11 +54,11 @@ iter_stands t Pass r w = end w r
 iter_stands t AfterIter r w = on_value w r (iterator_only w)
 iter_stands t AfterNext r w = next_rest w r
 iter_stands t Beginning r w = on_value w r (λ it. all_items w it [] (λ rs. end w (objects rs)))
-iter_stands t (Collecting it items) r w told = all_items w it items.items (λ rs. end w (objects rs)) (Answered r ∷ told)
+iter_stands t (Collecting it items) r w = λ told. all_items w it items.items (λ rs. end w (objects rs)) (Answered r ∷ told)
 iter_stands t AfterNative r w = on_value w r (λ v. end w (as_truth (truth_of v) v))
 iter_stands t AfterContains r w = on_value w r (λ v. start (pass w (ToProtocol (DoIsTrue v))) (end w))
 iter_stands t (Begun s x) r w = on_value w r (λ it. seeking w s it x 0)
-iter_stands t (Next s) r w told = seeking w s.search s.iterator s.needle s.number (Answered r ∷ told)
+iter_stands t (Next s) r w = λ told. seeking w s.search s.iterator s.needle s.number (Answered r ∷ told)
 iter_stands t (Equal s) r w = equal_rest w s r
 
 -- what is said of what is kept

@@ -1,5 +1,5 @@
 -- What the natives say that repeat a text, a tuple or a list by name.
-use Rattle.proto_ops.specs.Below.{ℤ, Bool, List, [], Option, Some, None, is_some, Result, Ok, Err, Vec, PyObjectRef, NativeEntry, OfStr, OfTuple, OfList, Raised as Fault, ArgCount, SelfType, Datum, AList, PlainWorld, Bindings, DoIndex, PlainTask, ToNative, ToProtocol, Ended, ReadObjects, Said, Asks, Ends, datum_at, Row, end, fault, elsewhere, with_two, list_repeated, native_repeat, on_count, sequence_for, with_times, as_said, with_read, tuple_made}
+use Rattle.proto_ops.specs.Below.{ℤ, List, [], Option, Some, None, Result, Ok, Err, Vec, PyObjectRef, NativeEntry, OfStr, OfTuple, OfList, Raised as Fault, ArgCount, SelfType, Datum, AList, PlainWorld, Bindings, DoIndex, PlainTask, ToNative, ToProtocol, Ended, ReadObjects, Said, Asks, Ends, datum_at, Row, end, fault, elsewhere, with_two, list_repeated, native_repeat, on_count, sequence_for, with_times, as_said, with_read, tuple_made}
 use Rattle.std.specs.Prelude.{◌∷◌}
 use Rattle.py_node.specs.declared.entry.StrNative.TheVariants as str
 use Rattle.py_node.specs.declared.entry.TupleNative.TheVariants as tuple
@@ -27,9 +27,6 @@ kind_of (OfList list.Multiply) = Some repeated.List
 kind_of (OfList list.RightMultiply) = Some repeated.RightList
 kind_of (OfList list.InplaceMultiply) = Some repeated.ListInPlace
 kind_of _ = None
-
-abbrev pub repeats : NativeEntry → Bool
-repeats n = is_some (kind_of n)
 
 -- the items of a list, which may change meanwhile: they are read once. A text and a tuple stay as they are
 abbrev pub stood : Datum → List PyObjectRef

@@ -13,7 +13,7 @@ use class_world::takes::three;
 use class_world::{Fixed, World};
 use py_node::{Answer, ArithmeticNative, BuiltIn, FuncArgs, Payload, Raised, Stop};
 use row_kit::give::new_int;
-use row_kit::take::{numbers, numbers_of};
+use row_kit::take_numbers::{numbers, numbers_of};
 
 /// A native that reckons with two numbers.
 pub fn arithmetic_native(

@@ -11,7 +11,7 @@ use class_world::takes::two;
 use py_node::{Answer, BitNative, FuncArgs, PyObjectRef, Raised, Stop};
 use row_kit::give::new_int;
 use row_kit::int_values::truth_of;
-use row_kit::take::numbers_of;
+use row_kit::take_numbers::numbers_of;
 
 /// A native on the bits of two numbers, or on two truth values.
 pub fn bits_native(world: &mut World, native: BitNative, call: FuncArgs<'_>) -> Result<Answer, Stop>

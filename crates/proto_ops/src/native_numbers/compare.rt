@@ -6,7 +6,7 @@ ghost use Rattle.proto_ops.specs.NativeNumbers.Say.{compare_say, order_by};
 
 use class_world::{Fixed, World};
 use py_node::{Answer, Cause, CompareNative, FuncArgs, Raised};
-use row_kit::take::number_and;
+use row_kit::take_numbers::number_and;
 
 /// A comparison of numbers, by name. Where the other object holds none, it answers NotImplemented.
 pub fn compare_native(

@@ -9,7 +9,7 @@ use class_world::World;
 use py_node::{Answer, FuncArgs, NumberNative, PyObjectRef, Stop};
 use row_kit::give::{new_int, new_text, new_word};
 use row_kit::int_values::{as_int, number_hash};
-use row_kit::take::lone_number;
+use row_kit::take_numbers::lone_number;
 
 /// A native of one number.
 pub fn number_native(

@@ -13,7 +13,7 @@ use Rattle.py_node.specs.declared.entry.SuperNative.TheVariants as super
 use Rattle.py_node.specs.declared.entry.TupleNative.TheVariants as tuple
 use Rattle.py_node.specs.declared.entry.WrapperNative.TheVariants as wrapper
 use Rattle.row_kit.specs.declared.take_containers.Kind.TheVariants as kind
-use Rattle.native_containers.specs.declared.native_parts.take.Container.TheVariants as shown
+use Rattle.native_containers.specs.declared.native_parts.parts.Container.TheVariants as shown
 use Rattle.native_containers.specs.declared.native_parts.wrapped.Wrapper.TheVariants as wraps
 use Rattle.proto_ops.specs.declared.native_repeats.kind.Repeated.TheVariants as repeated
 use Rattle.proto_attr.specs.declared.native_calls.way.Kind.TheVariants as bound

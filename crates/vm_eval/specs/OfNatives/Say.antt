@@ -1,6 +1,17 @@
 -- What natives say that stand in no group of tasks.
-use Rattle.vm_eval.specs.Below.{List, PyObjectRef, Int, Str, NativeEntry, OfFixed, OfNumber, OfArithmetic, OfBits, OfStr, Compare, OfTuple, OfList, OfDict, OfIterator, OfCallable, OfDescriptor, OfProperty, OfWrapper, OfSuper, NewOf, Getter, Setter, GetterOf, SetterOf, PlainWorld, Bindings, Said, Ends, Row, end, elsewhere, asks_for_items, items_native_say, asks_for_parts, parts_native_say, compares_items, compare_native_say, repeats, repeat_native_say, tuple_say, list_say, dict_say, iterator_say, fixed_say, number_say, arithmetic_say, bits_say, compare_say, text_say, compare_text_say, callable_say, descriptor_native_say, property_say, wrapper_say, super_say, maker_say, getter_say, setter_say, setter_of_say, getter_of_say, asks, asking_say, asks_for_details, details_native_say}
-use Rattle.std.specs.Prelude.{if◌then◌else◌}
+use Rattle.vm_eval.specs.Below.{List, PyObjectRef, Int, Str, NativeEntry, OfFixed, OfNumber, OfArithmetic, OfBits, OfStr, Compare, NewWrapper, OfTuple, OfList, OfDict, OfIterator, OfCallable, OfDescriptor, OfProperty, OfWrapper, OfSuper, NewOf, Getter, Setter, GetterOf, SetterOf, PlainWorld, Bindings, Said, Ends, Row, end, elsewhere, items_native_say, parts_native_say, compare_native_say, repeat_native_say, tuple_say, list_say, dict_say, iterator_say, fixed_say, number_say, arithmetic_say, bits_say, compare_say, text_say, compare_text_say, callable_say, descriptor_native_say, property_say, wrapper_say, super_say, maker_say, getter_say, setter_say, setter_of_say, getter_of_say, asking_say, details_native_say}
+use Rattle.py_node.specs.declared.built_in.BuiltIn.TheVariants as built_in
+use Rattle.py_node.specs.declared.entry.CallableNative.TheVariants as callable
+use Rattle.py_node.specs.declared.entry.DescriptorNative.TheVariants as descriptor
+use Rattle.py_node.specs.declared.entry.Detail.TheVariants as detail
+use Rattle.py_node.specs.declared.entry.DictNative.TheVariants as dict
+use Rattle.py_node.specs.declared.entry.IteratorNative.TheVariants as iterator
+use Rattle.py_node.specs.declared.entry.ListNative.TheVariants as list
+use Rattle.py_node.specs.declared.entry.PropertyNative.TheVariants as property
+use Rattle.py_node.specs.declared.entry.StrNative.TheVariants as str
+use Rattle.py_node.specs.declared.entry.SuperNative.TheVariants as super
+use Rattle.py_node.specs.declared.entry.TupleNative.TheVariants as tuple
+use Rattle.py_node.specs.declared.entry.WrapperNative.TheVariants as wrapper
 use Rattle.plain_machine.specs.Row.{start}
 use Rattle.vm_eval.specs.declared.natives.family.Family.{Family}
 use Rattle.vm_eval.specs.declared.natives.family.Family.TheVariants as family
@@ -30,16 +41,72 @@ native_by w (GetterOf b d) args kw = getter_of_say w b d args kw
 native_by w (SetterOf b d) args kw = setter_of_say w b d args kw
 native_by w _ args kw = Ends w elsewhere
 
--- the family of natives that one is of, by what it asks
-abbrev pub family_of : NativeEntry → Family
-family_of n =
-    if asks_for_items n then family.Items
-    else (if asks_for_parts n then family.Parts
-    else (if compares_items n then family.Comparisons
-    else (if repeats n then family.Repeats
-    else (if asks_for_details n then family.Details
-    else (if asks n then family.Calls
-    else family.Plain)))))
+-- the family of natives that one is of, by its class and what it asks
+unfoldable pub family_of : NativeEntry → Family
+family_of (OfStr str.GetItem) = family.Items
+family_of (OfStr str.Multiply) = family.Repeats
+family_of (OfStr str.RightMultiply) = family.Repeats
+family_of (OfTuple tuple.GetItem) = family.Items
+family_of (OfTuple tuple.Contains) = family.Items
+family_of (OfTuple tuple.Repr) = family.Parts
+family_of (OfTuple tuple.Hash) = family.Parts
+family_of (OfTuple tuple.Multiply) = family.Repeats
+family_of (OfTuple tuple.RightMultiply) = family.Repeats
+family_of (OfList list.GetItem) = family.Items
+family_of (OfList list.SetItem) = family.Items
+family_of (OfList list.DelItem) = family.Items
+family_of (OfList list.Contains) = family.Items
+family_of (OfList list.InplaceAdd) = family.Items
+family_of (OfList list.Init) = family.Parts
+family_of (OfList list.Repr) = family.Parts
+family_of (OfList list.Multiply) = family.Repeats
+family_of (OfList list.RightMultiply) = family.Repeats
+family_of (OfList list.InplaceMultiply) = family.Repeats
+family_of (OfDict dict.Repr) = family.Parts
+family_of (OfIterator iterator.Next) = family.Items
+family_of (Compare built_in.Tuple n) = family.Comparisons
+family_of (Compare built_in.List n) = family.Comparisons
+family_of (Compare built_in.Dict n) = family.Comparisons
+family_of (OfCallable callable.ReprMethodDescriptor) = family.Plain
+family_of (OfCallable n) = family.Calls
+family_of (OfDescriptor descriptor.GetSetGet) = family.Calls
+family_of (OfDescriptor descriptor.GetSetSet) = family.Calls
+family_of (OfDescriptor descriptor.GetSetDelete) = family.Calls
+family_of (OfDescriptor descriptor.MemberGet) = family.Calls
+family_of (OfDescriptor descriptor.MemberSet) = family.Calls
+family_of (OfDescriptor descriptor.MemberDelete) = family.Calls
+family_of (OfProperty property.Get) = family.Calls
+family_of (OfProperty property.Set) = family.Calls
+family_of (OfProperty property.Delete) = family.Calls
+family_of (OfSuper super.Init) = family.Calls
+family_of (OfSuper super.GetAttribute) = family.Calls
+family_of (OfSuper super.Get) = family.Calls
+family_of (OfWrapper wrapper.ClassGet) = family.Calls
+family_of (OfWrapper wrapper.StaticGet) = family.Calls
+family_of (OfWrapper wrapper.StaticCall) = family.Calls
+family_of (OfWrapper wrapper.ClassRepr) = family.Parts
+family_of (OfWrapper wrapper.StaticRepr) = family.Parts
+family_of (NewOf built_in.Int) = family.Parts
+family_of (NewOf built_in.Bool) = family.Parts
+family_of (NewOf built_in.Str) = family.Parts
+family_of (NewOf built_in.Tuple) = family.Parts
+family_of (NewOf built_in.ClassMethod) = family.Calls
+family_of (NewOf built_in.StaticMethod) = family.Calls
+family_of NewWrapper = family.Calls
+family_of (GetterOf built_in.Property detail.IsAbstract) = family.Details
+family_of (GetterOf built_in.MemberDescriptor detail.Qualname) = family.Details
+family_of (GetterOf built_in.ClassMethod detail.Module) = family.Calls
+family_of (GetterOf built_in.ClassMethod detail.Qualname) = family.Calls
+family_of (GetterOf built_in.ClassMethod detail.Name) = family.Calls
+family_of (GetterOf built_in.ClassMethod detail.Annotations) = family.Calls
+family_of (GetterOf built_in.ClassMethod detail.IsAbstract) = family.Calls
+family_of (GetterOf built_in.StaticMethod detail.Module) = family.Calls
+family_of (GetterOf built_in.StaticMethod detail.Qualname) = family.Calls
+family_of (GetterOf built_in.StaticMethod detail.Name) = family.Calls
+family_of (GetterOf built_in.StaticMethod detail.Annotations) = family.Calls
+family_of (GetterOf built_in.StaticMethod detail.IsAbstract) = family.Calls
+family_of (SetterOf b detail.IsAbstract) = family.Calls
+family_of _ = family.Plain
 
 abbrev pub by_family : PlainWorld → Family → NativeEntry → List PyObjectRef → Bindings → Row
 by_family w family.Items n args kw = items_native_say w n args kw

@@ -1,5 +1,12 @@
-use Rattle.proto_call.proofs.Lemmas.{IfOk, length, map, ap, sym, subst, ◌∙◌, PlainWorld, Reading, spelled, ok-map, one_of, op_say, attr_say, set_attr_say, del_attr_say, called_say, if_say, seq_say, raise_say, class_say, two_of, IsOwn, Goes, Continues, operands_at, args_of, keywords_of, own-closes, own-takes, own-takes-read, says-attr, says-set, says-call, says-raise, attr-name, call-func, says-op, says-del, says-if, says-seq, del-name, if-branches, says-class, class-long, class-names, set-name, one-holds, own-func, own-tuple, own-list, no-pairs, own-dict, grows-itself}
+use Rattle.proto_call.proofs.Lemmas.{IfOk, length, map, ap, sym, subst, ◌∙◌, PlainWorld, Reading, spelled, ok-map, one_of, op_say, attr_say, set_attr_say, del_attr_say, called_say, if_say, seq_say, raise_say, class_say, two_of, IsOwn, Goes, Continues, operands_at, args_of, keywords_of, own-closes, own-takes, own-takes-read, says-attr, says-set, says-call, says-raise, attr-name, call-func, says-op, says-del, says-if, says-seq, del-name, if-branches, says-class, class-long, class-names, set-name, one-holds, own-const, own-func, own-tuple, own-list, no-pairs, own-dict, grows-itself}
 use Rattle.proto_call.proofs.eval_forms.own_step.Goals as goal
+
+pub returns-in-Const-clause-goes : goal.returns-in-Const-clause-goes
+returns-in-Const-clause-goes c =
+    let f = c.form.result.now in
+    let own = subst (λ o. IsOwn o f) c.in-Const.is c.in_ok-constant.ensures in
+    let long = ap (λ o. length (operands_at o)) (sym c.form.ensures.stored) ∙ c.requires.all in
+    own-const c.args.world.now c.const_step.new.world c.args.e f c.args.values.items c.in-Const.constant c.const_step.result c.form.ensures.stored long own c.const_step.ensures.goes
 
 pub returns-in-SetAttr-clause-goes : goal.returns-in-SetAttr-clause-goes
 returns-in-SetAttr-clause-goes c =

@@ -1,5 +1,5 @@
 use Rattle.proto_attr.proofs.Lemmas.{◌∙◌, bindings, plain, with_one_or_two}
-use Rattle.proto_attr.proofs.native_objects.take.class_and_given.Goals as goal
+use Rattle.proto_attr.proofs.native_objects.receivers.class_and_given.Goals as goal
 
 pub returns-in-Err-one_or_two-clause-refused : goal.returns-in-Err-one_or_two-clause-refused
 returns-in-Err-one_or_two-clause-refused c = λ t go.

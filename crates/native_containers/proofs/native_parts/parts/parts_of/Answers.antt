@@ -1,5 +1,5 @@
 use Rattle.native_containers.proofs.Lemmas.{◌∙◌, ap, sym, no-nodes, parts_in, no-parts}
-use Rattle.native_containers.proofs.native_parts.take.parts_of.Goals as goal
+use Rattle.native_containers.proofs.native_parts.parts.parts_of.Goals as goal
 
 pub returns-in_default-clause-parts : goal.returns-in_default-clause-parts
 returns-in_default-clause-parts c = λ t.

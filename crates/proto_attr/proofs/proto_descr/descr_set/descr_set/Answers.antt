@@ -1,5 +1,5 @@
 use Rattle.proto_attr.proofs.Lemmas.{closed-begins}
-use Rattle.proto_attr.proofs.proto_descr.setting.descr_set.Goals as goal
+use Rattle.proto_attr.proofs.proto_descr.descr_set.descr_set.Goals as goal
 
 pub returns-clause-goes : goal.returns-clause-goes
 returns-clause-goes c =

@@ -1,5 +1,5 @@
 use Rattle.native_containers.proofs.Lemmas.{◌∙◌, bindings, one-given, two-given}
-use Rattle.native_containers.proofs.native_parts.take.one_at_most.Goals as goal
+use Rattle.native_containers.proofs.native_parts.parts.one_at_most.Goals as goal
 
 pub returns-in-Err-clause-refused : goal.returns-in-Err-clause-refused
 returns-in-Err-clause-refused c = λ t u without go.

@@ -1,11 +1,11 @@
 //! What is read of classes.
 
-ghost use Rattle.class_world.specs.Below.{ℕ, Some, IfSome, IfOk, option_map, natives_of, class_at as class_numbered, found, found_past, own_of, is_sub, has_flag, all_attributes, place_count, short_name, slot as slot_read, candidates_of, goes_first, is_heap_at, list_of, ref, text_keys, slot_at, candidates_at, goes_first_at, is_text};
+ghost use Rattle.class_world.specs.Below.{ℕ, Some, IsTrue, IfSome, IfOk, option_map, natives_of, class_at as class_numbered, gives_dict, has_dict as class_has_dict, the_dict, found, found_past, own_of, is_sub, has_flag, all_attributes, place_count, short_name, slot as slot_read, candidates_of, goes_first, is_heap_at, list_of, ref, text_keys, slot_at, candidates_at, goes_first_at, is_text};
 ghost use Rattle.std.specs.Prelude.{◌≡◌, ◌<◌};
 ghost use Rattle.class_model.specs.Slot.{entry};
-ghost use Rattle.plain_machine.specs.World.{class_at};
+ghost use Rattle.plain_machine.specs.World.{class_at, has_dict};
 ghost use Rattle.class_world.specs.Reading.{Reading, Reads, bindings, plain};
-ghost use Rattle.class_world.specs.Sound.{IsNode, IsClass, IsOffset, Holds, AllHold, of_binding, of_each};
+ghost use Rattle.class_world.specs.Sound.{IsNode, IsClass, IsOffset, Holds, AllHold, flags_at, of_binding, of_each};
 
 use crate::world::World;
 use class_table::Candidates;
@@ -214,5 +214,25 @@ impl World {
     {
         let _classes = &self.classes;
         PyObjectRef(class.0)
+    }
+
+    /// Whether a class gives its objects a dict: it brings one, or one of its bases gives one. Its flags say so too.
+    pub fn has_dict(&self, class: PyTypeRef) -> bool
+        requires { Holds self.now (IsClass class.0) }
+        ensures says { (t : Reading) → has_dict (plain t self.now) class.0 ≡ result }
+        ensures gives { (t : Reading) → gives_dict (plain t self.now).classes class.0 ≡ result }
+        ensures given { class_has_dict self.now.classes class.0 ≡ result }
+        ensures dict { IsTrue result → Holds self.now (IsClass the_dict) }
+    {
+        self.classes.sound();
+        self.classes.has_dict(class)
+    }
+
+    /// The flags of a class.
+    pub fn class_flags(&self, class: PyTypeRef) -> PyTypeFlags
+        requires { Holds self.now (IsClass class.0) }
+        ensures { (t : Reading) → flags_at (plain t self.now).classes class.0 ≡ Some result.0 }
+    {
+        self.classes.flags(class)
     }
 }

@@ -1,5 +1,5 @@
 use Rattle.proto_attr.proofs.Lemmas.{IsNode}
-use Rattle.proto_attr.proofs.setting.set_by_method.Goals as goal
+use Rattle.proto_attr.proofs.set_attr.set_by_method.Goals as goal
 
 pub returns-in_ok-args-in-Assign-clause-safe : goal.returns-in_ok-args-in-Assign-clause-safe
 returns-in_ok-args-in-Assign-clause-safe c =

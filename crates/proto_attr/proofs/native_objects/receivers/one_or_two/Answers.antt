@@ -1,5 +1,5 @@
 use Rattle.proto_attr.proofs.Lemmas.{Some, None, ◌∙◌, bindings, one-given, two-given}
-use Rattle.proto_attr.proofs.native_objects.take.one_or_two.Goals as goal
+use Rattle.proto_attr.proofs.native_objects.receivers.one_or_two.Goals as goal
 
 pub returns-in-Err-clause-refused : goal.returns-in-Err-clause-refused
 returns-in-Err-clause-refused c = λ t u go.

@@ -1,5 +1,5 @@
 use Rattle.native_containers.proofs.Lemmas.{◌∙◌, ap, subst, sym, take_all, AreNodes, Holds, flattened, flat-nodes}
-use Rattle.native_containers.proofs.native_parts.take.flattened.Goals as goal
+use Rattle.native_containers.proofs.native_parts.parts.flattened.Goals as goal
 
 pub returns-clause-holds : goal.returns-clause-holds
 returns-clause-holds c = λ w h k.

@@ -1,5 +1,0 @@
-use Rattle.class_world.proofs.Lemmas.{rules}
-use Rattle.class_world.proofs.one_base.single_with_node.Goals as goal
-
-pub returns-in-Ok-new_single-clause-node : goal.returns-in-Ok-new_single-clause-node
-returns-in-Ok-new_single-clause-node c = (c.in-Ok.members, rw c.in-Ok.is at c.empty_places.ensures, search rules)
