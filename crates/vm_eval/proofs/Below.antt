@@ -1,6 +1,7 @@
 -- The words that the lemmas of this crate are written in: its own definitions, and words and lemmas of crates below.
-pub use Rattle.class_world.proofs.Claims.{all-last, all-rest, each-pop, each-push}
-pub use Rattle.class_world.proofs.Growth.{lasts-on}
+pub use Rattle.class_world.proofs.Claims.{all-first, all-last, all-rest, each-pop, each-push}
+pub use Rattle.class_world.proofs.Growth.{lasts-on, same-lasts}
+pub use Rattle.class_world.proofs.Leaves.{leaves-among, leaves-open}
 pub use Rattle.class_world.specs.Reading.{Reading, Reads, bindings, ended_of, scope_of, task_of, attribute_job, call_job, class_job, compare_job, descriptor_job, eval_job, object_job, operator_job, protocol_job}
 unfoldable pub use Rattle.class_world.specs.Reading.{plain}
 pub use Rattle.class_world.specs.Rows.{EndsAs}
@@ -8,7 +9,7 @@ unfoldable pub use Rattle.native_containers.specs.NativeCompare.Say.{compared_jo
 unfoldable pub use Rattle.native_containers.specs.NativeItems.Say.{item_job_say}
 unfoldable pub use Rattle.native_containers.specs.NativeConversions.Say.{conversion_job_say}
 pub use Rattle.plain_machine.proofs.Follow.{reach-is}
-pub use Rattle.plain_machine.specs.Answer.{NoUnits, Out, Outcome, Over, Run, answer, answering, asked, plain_run, reach, replied, step}
+pub use Rattle.plain_machine.specs.Answer.{NoUnits, Out, Outcome, Over, Run, answer, answering, asked, carry, plain_run, reach, replied, step}
 pub use Rattle.plain_machine.specs.Plain.{Answered, Asks, DoEval, Ended, Ends, PlainTask, PlainWorld, Said, ToAttribute, ToCall, ToClass, ToCompare, ToDescriptor, ToEval, ToObject, ToOperator, ToProtocol, Told}
 pub use Rattle.plain_machine.specs.Row.{fault}
 unfoldable pub use Rattle.proto_attr.specs.NativeCalls.Say.{asking_job_say}
@@ -17,19 +18,18 @@ pub use Rattle.proto_object.specs.ProtoIter.Rows.{iter_group}
 unfoldable pub use Rattle.proto_ops.specs.NativeRepeats.Say.{repeat_job_say}
 pub use Rattle.py_node.specs.Replies.{PlainReplyAnswer, Started, reply_of}
 pub use Rattle.py_node.specs.declared.raised.Cause.TheVariants.{DepthLimit}
-pub use Rattle.std.proofs.Common.{List, Ok, Result, [], ap, arith, cond, drop, length, length-append, map, nat_lt, refl, subst, suc, sym, true, zero, zero-add, ℕ, ◌∙◌}
-pub use Rattle.std.proofs.lemmas.Bool.{le-ltb, lt-ltb}
+pub use Rattle.std.proofs.Common.{Bool, List, Ok, Result, [], ap, arith, cond, drop, false, length, length-append, map, nat_lt, refl, subst, suc, sym, true, zero, zero-add, ℕ, ◌∙◌}
+pub use Rattle.std.proofs.lemmas.Bool.{le-ltb, lt-ltb, ltb-false, ltb-true}
 pub use Rattle.std.proofs.lemmas.List.{append_assoc}
 pub use Rattle.std.proofs.lemmas.List.Sums.{sum_by_push}
-pub use Rattle.vm_eval.specs.Below.{Answer, Ask, End, Err, Grows, Held, IfOk, Lasts, LeavesOpen, NativeEntry, Raised, Step, Task, Tree, World, of_task, vec_capacity, without_calls}
+pub use Rattle.vm_eval.specs.Below.{AllHold, Answer, Ask, Claim, End, Err, Grows, Held, IfOk, Lasts, Leaves, LeavesOpen, NativeEntry, Raised, Step, Task, Tree, World, left_open, of_each, of_step, of_task, sum_by, vec_capacity, without_calls}
 pub use Rattle.vm_eval.specs.OfNatives.Rows.{kept_among, native_job, natives_stands, natives_group}
 pub use Rattle.vm_eval.specs.OfNatives.Say.{by_family, family_of, native_by}
 unfoldable pub use Rattle.vm_eval.specs.OfNatives.Say.{native_job_say}
 pub use Rattle.vm_eval.specs.Runs.{Replied, before, trees_in}
 pub use Rattle.vm_eval.specs.Say.{Begins, Resumes, bodies_in, branch_of, by_branch, of_kept, step_among, to_native, machine_group}
 unfoldable pub use Rattle.vm_eval.specs.Say.{say, stands}
-pub use Rattle.vm_eval.specs.Stack.{Answers, AsDeep, Pending, BeginsAt, IsOnItsWay, Reaches, coming, ending_of, finish, unwind, AllWait, Waits, WaitsAt}
-unfoldable pub use Rattle.vm_eval.specs.Stack.{Comes}
+pub use Rattle.vm_eval.specs.Stack.{Answers, AsDeep, Comes, EndsDeep, IsFirst, IsFirstAbove, IsNext, IsTaken, Reaches, ending_of}
 pub use Rattle.vm_eval.specs.declared.natives.NativesKept.{NativesKept}
 pub use Rattle.vm_eval.specs.declared.natives.NativesKept.TheVariants.{ForCalls, ForComparisons, ForDetails, ForConversions, ForRepeats}
 pub use Rattle.vm_eval.specs.declared.natives.family.Family.{Family}

@@ -1,6 +1,6 @@
 -- What a group's row says is what the row says among all.
-use Rattle.vm_eval.proofs.Below.{ap, refl, subst, sym, Result, Raised as Fault, Answer, Step, PlainWorld, PlainTask, ToEval, ToAttribute, ToDescriptor, ToCall, ToClass, ToOperator, ToCompare, ToProtocol, ToObject, Ended, Told, World, Reading, ended_of, eval_job, attribute_job, descriptor_job, call_job, class_job, operator_job, compare_job, object_job, protocol_job, eval_group, attribute_group, descriptor_group, call_group, class_group, operator_group, compare_group, number_group, iter_group, items_group, object_group, natives_group, Kept, ForEval, ForAttribute, ForDescriptor, ForCall, ForClass, ForOperator, ForCompare, ForNumber, ForIteration, ForItems, ForObject, ForNative, Branch, say, stands, machine_group, step_among, by_branch, branch_of, to_native, Resumes, Group, goes-among}
-use Rattle.std.proofs.Common.{◌≡◌}
+use Rattle.vm_eval.proofs.Below.{ℕ, List, Ok, ap, refl, Result, Raised as Fault, Answer, Step, Ask, End, PlainWorld, PlainTask, ToEval, ToAttribute, ToDescriptor, ToCall, ToClass, ToOperator, ToCompare, ToProtocol, ToObject, Ended, Told, World, Reading, ended_of, Claim, of_step, of_task, of_kept, bodies_in, left_open, Leaves, LeavesOpen, leaves-among, leaves-open, eval_job, attribute_job, descriptor_job, call_job, class_job, operator_job, compare_job, object_job, protocol_job, eval_group, attribute_group, descriptor_group, call_group, class_group, operator_group, compare_group, number_group, iter_group, items_group, object_group, natives_group, Kept, ForEval, ForAttribute, ForDescriptor, ForCall, ForClass, ForOperator, ForCompare, ForNumber, ForIteration, ForItems, ForObject, ForNative, Branch, say, stands, machine_group, step_among, by_branch, branch_of, to_native, Resumes, Group, goes-among}
+use Rattle.std.proofs.Common.{◌≡◌, ◌++◌}
 use Rattle.py_node.specs.declared.protocol.ProtocolTask.{ProtocolTask}
 use Rattle.row_kit.specs.Points as points
 use Rattle.vm_eval.specs.declared.protocols.Branch.TheVariants as branch
@@ -12,16 +12,34 @@ pub record Among {T K : Type 0} (g : Group T K) (job : Reading → T → PlainTa
 
 module _ {T K : Type 0} {g : Group T K} {job : Reading → T → PlainTask} {for : K → Kept} {own : T → Type 0} (a : Among g job for own) where
   -- a task of the group begins so among all
-  pub begins-among : (task : T) (old new : World) (step : Step K) (next : Step Kept) → own task → next ≡ step_among for step → points.Begins g task old new step → points.Goes machine_group (λ t u. say u (job t task)) old new next
-  begins-among task old new step next is same h =
-      subst (points.Goes machine_group (λ t u. say u (job t task)) old new) (sym same)
-      (goes-among g machine_group for a.keeps (λ t. g.row t task) (λ t u. say u (job t task)) (λ t. a.says t task is) old new step h)
+  pub begins-among : (task : T) (old new : World) (step : Step K) → own task → points.Begins g task old new step → points.Goes machine_group (λ t u. say u (job t task)) old new (step_among for step)
+  begins-among task old new step is h = goes-among g machine_group for a.keeps (λ t. g.row t task) (λ t u. say u (job t task)) (λ t. a.says t task is) old new step h
 
   -- and what is kept of it goes on so
-  pub resumes-among : (full : Kept) (kept : K) (r : Result Answer Fault) (old new : World) (step : Step K) (next : Step Kept) → full ≡ for kept → next ≡ step_among for step → points.Resumes g kept r old new step → Resumes full r old new next
-  resumes-among full kept r old new step next is same h =
-      subst (λ full. Resumes full r old new next) (sym is) (subst (Resumes (for kept) r old new) (sym same)
-      (goes-among g machine_group for a.keeps (λ t. g.stands t kept (ended_of r)) (λ t. stands t (for kept) (ended_of r)) (λ t. a.keeps t kept (ended_of r)) old new step h))
+  pub resumes-among : (kept : K) (r : Result Answer Fault) (old new : World) (step : Step K) → points.Resumes g kept r old new step → Resumes (for kept) r old new (step_among for step)
+  resumes-among kept r old new step h = goes-among g machine_group for a.keeps (λ t. g.stands t kept (ended_of r)) (λ t. stands t (for kept) (ended_of r)) (λ t. a.keeps t kept (ended_of r)) old new step h
+
+-- what a group's row leaves is what the row leaves among all
+module _ {K : Type 0} (for : K → Kept) (of_group : K → List Claim) (same : (k : K) → of_kept (for k) ≡ of_group k) where
+  says-among : (step : Step K) → of_step of_kept (step_among for step) ≡ of_step of_group step
+  says-among (Ask asked kept) = ap (λ cs. of_task asked ++ cs) (same kept)
+  says-among (End r) = refl
+
+  opens-among : (there : K → ℕ) → ((k : K) → bodies_in (for k) ≡ there k) → (step : Step K) → left_open bodies_in (step_among for step) ≡ left_open there step
+  opens-among there opens (Ask asked kept) = opens kept
+  opens-among there opens (End r) = refl
+
+  none-open : ((k : K) → bodies_in (for k) ≡ 0) → (step : Step K) → left_open bodies_in (step_among for step) ≡ 0
+  none-open opens (Ask asked kept) = opens kept
+  none-open opens (End r) = refl
+
+  -- of a group that begins no body
+  pub leaves-as : (before : ℕ) (old new : World) (step : Step K) → before ≡ 0 → ((k : K) → bodies_in (for k) ≡ 0) → Leaves of_group old new (Ok step) → LeavesOpen of_kept bodies_in before old new (Ok (step_among for step))
+  leaves-as before old new step none opens h = leaves-among of_kept bodies_in of_group before old new step (step_among for step) none (says-among step) (none-open opens step) h
+
+  -- of a group that may begin one
+  pub leaves-open-as : (there : K → ℕ) (before : ℕ) (old new : World) (step : Step K) → ((k : K) → bodies_in (for k) ≡ there k) → LeavesOpen of_group there before old new (Ok step) → LeavesOpen of_kept bodies_in before old new (Ok (step_among for step))
+  leaves-open-as there before old new step opens h = leaves-open of_kept bodies_in of_group there before before old new step (step_among for step) refl (says-among step) (opens-among there opens step) h
 
 -- most groups are for all their tasks
 abbrev pub Any : {T : Type 0} → T → Type 0

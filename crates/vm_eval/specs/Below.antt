@@ -14,7 +14,7 @@ pub use Rattle.class_table.specs.Rebase.{IsToldFirst, refused_change, refused_re
 pub use Rattle.class_table.specs.Refused.{IsEarly, NamesNoClass, WithMemory, refusal, refused_attr}
 pub use Rattle.class_table.specs.Settle.{line_places}
 pub use Rattle.class_table.specs.declared.fault.ClassFault.{ClassFault}
-pub use Rattle.class_world.specs.Claims.{Leaves, LeavesOpen, left_open, of_answer, of_args, of_attribute_task, of_ended, of_protocol_task, of_step, of_task}
+pub use Rattle.class_world.specs.Claims.{Leaves, LeavesOpen, left_open, of_answer, of_args, of_attribute_task, of_ended, of_step, of_task}
 pub use Rattle.class_world.specs.Held.{Held}
 pub use Rattle.class_world.specs.Names.{AddsName}
 pub use Rattle.class_world.specs.NewHeap.{of_slots, refused_heap, slot_texts}
@@ -30,11 +30,11 @@ pub use Rattle.native_containers.specs.NativeConversions.Rows.{of_conversion_kep
 pub use Rattle.native_containers.specs.NativeConversions.Say.{conversion_native_say}
 pub use Rattle.native_containers.specs.NativeTexts.Say.{compare_text_say, text_say}
 pub use Rattle.native_containers.specs.Say.{dict_say, iterator_say, list_say, tuple_say}
-pub use Rattle.plain_machine.specs.Answer.{Ending, NoUnits, Out, Outcome, Over, Run, answer, answering, asked, carry, plain_run, reach, replied}
+pub use Rattle.plain_machine.specs.Answer.{Ending, NoUnits, Out, Outcome, Over, Run, answer, answering, plain_run, reach, replied}
 pub use Rattle.plain_machine.specs.Change.{SetBases, apply, without_own_attr}
 pub use Rattle.plain_machine.specs.Known.{the_type}
-pub use Rattle.plain_machine.specs.Plain.{ABuiltinMethod, AClassMethod, AStaticMethod, Answered, Bindings, Datum, DoCollect, DoContains, DoCount, DoEval, DoFind, DoGetIter, DoHint, DoIndex, DoIsTrue, DoLength, DoNext, DoWhole, Ended, Ends, PlainTask, PlainWorld, ProtocolJob, Said, Saying, ToAttribute, ToCall, ToClass, ToCompare, ToDescriptor, ToEval, ToNative, ToObject, ToOperator, ToProtocol, Told}
-pub use Rattle.plain_machine.specs.Row.{Row, elsewhere, end}
+pub use Rattle.plain_machine.specs.Plain.{ABuiltinMethod, AClassMethod, AStaticMethod, Bindings, Datum, DoCollect, DoContains, DoCount, DoEval, DoFind, DoGetIter, DoHint, DoIndex, DoIsTrue, DoLength, DoNext, DoWhole, Ended, Ends, PlainTask, PlainWorld, ProtocolJob, Said, Saying, ToAttribute, ToCall, ToClass, ToCompare, ToDescriptor, ToEval, ToNative, ToObject, ToOperator, ToProtocol}
+pub use Rattle.plain_machine.specs.Row.{Row, elsewhere, end, fault}
 pub use Rattle.plain_machine.specs.Show.{show}
 pub use Rattle.plain_machine.specs.Sound.{IsSound, read_offset, set_offset}
 pub use Rattle.plain_machine.specs.Start.{start}
@@ -76,6 +76,7 @@ pub use Rattle.proto_ops.specs.ProtoCompare.Rows.{compare_stands, of_compare_kep
 pub use Rattle.proto_ops.specs.ProtoCompare.Say.{compare_job_say}
 pub use Rattle.proto_ops.specs.Rows.{of_operator_kept, operator_stands}
 pub use Rattle.proto_ops.specs.Say.{operator_say}
+pub use Rattle.py_node.specs.Faults.{raised}
 pub use Rattle.py_node.specs.BuiltIns.{heap_flags, place_of}
 pub use Rattle.py_node.specs.Replies.{GivesValue, PlainReply, reply_answer_of, reply_of}
 pub use Rattle.py_node.specs.Tree.{Text, Tree, tree_of}
@@ -86,6 +87,7 @@ pub use Rattle.py_node.specs.declared.entry.NativeEntry.TheVariants.{Compare, Ge
 pub use Rattle.py_node.specs.declared.expr.Command.{Command}
 pub use Rattle.py_node.specs.declared.memory.OutOfMemory.{OutOfMemory}
 pub use Rattle.py_node.specs.declared.raised.Cause.{Cause}
+pub use Rattle.py_node.specs.declared.raised.Cause.TheVariants.{DepthLimit}
 pub use Rattle.py_node.specs.declared.raised.Raised.{Raised}
 pub use Rattle.py_node.specs.declared.refs.PyObjectRef.{PyObjectRef}
 pub use Rattle.py_node.specs.declared.refs.PyStrInterned.{PyStrInterned}
@@ -97,4 +99,4 @@ pub use Rattle.py_node.specs.declared.task.PyResult.TheVariants.{Budget, Done}
 pub use Rattle.py_node.specs.declared.task.Step.{Step}
 pub use Rattle.py_node.specs.declared.task.Step.TheVariants.{Ask, End}
 pub use Rattle.py_node.specs.declared.task.Task.{Task}
-pub use Rattle.std.specs.Prelude.{Bool, Err, IfErr, IfOk, IsSome, IsTrue, List, None, Ok, OnErr, OnOk, Option, Result, Some, [], false, fold, is_some, length, map, suc, sum_by, true, vec_capacity, zero, ℕ}
+pub use Rattle.std.specs.Prelude.{Bool, Err, IfErr, IfOk, IsSome, IsTrue, List, None, Ok, OnErr, OnOk, Option, Result, Some, [], false, fold, is_some, length, map, sum_by, true, vec_capacity, ℕ}

@@ -1,55 +1,36 @@
--- What a stack of frames comes to, in the terms of `reach`.
-use Rattle.vm_eval.specs.Below.{ℕ, zero, suc, List, [], length, sum_by, Task, Step, Ask, End, PlainWorld, PlainTask, Answered, Ending, Over, NoUnits, Outcome, Out, carry, asked, reach, answer, Ended, Told, World, Held, Reading, Reads, plain, task_of, ended_of, Claim, AllHold, Lasts, of_each, of_step, of_ended, left_open}
-use Rattle.std.specs.Prelude.{◌≡◌, ◌+◌, ◌≤◌, ◌∷◌, ◌++◌}
+-- What a task comes to on the stack of frames, in the terms of the plain machine.
+use Rattle.vm_eval.specs.Below.{ℕ, List, [], length, Ok, Result, Raised as Fault, Answer, Task, Step, Ask, End, Ending, Over, NoUnits, Out, reach, answer, World, Held, Reading, Reads, plain, task_of, ended_of, Claim, LeavesOpen, of_ended, fault, DepthLimit}
+use Rattle.std.specs.Prelude.{◌≡◌, ◌<◌, ◌≤◌, ◌∷◌, ◌++◌}
 use Rattle.vm_eval.specs.declared.stack.Kept.{Kept}
 use Rattle.vm_eval.specs.declared.stack.End.{End as CodeEnd}
 use Rattle.vm_eval.specs.declared.stack.End.TheVariants as code
-use Rattle.vm_eval.specs.Say.{say, stands, of_kept, bodies_in}
+use Rattle.vm_eval.specs.declared.stack.Next.{Next}
+use Rattle.vm_eval.specs.declared.stack.Next.TheVariants as next
+use Rattle.vm_eval.specs.Say.{say, of_kept, bodies_in, Begins, Resumes}
 
--- a row at some point: its task, and what it has learnt so far
-pub record Pending : Type 0 where
-  pub task : PlainTask
-  pub told : Told
+-- a step is taken so: what is kept goes on top of the stack
+abbrev pub IsTaken : Step Kept → List Kept → List Kept → Next → Type 0
+IsTaken (Ask asked kept) below stack (next.Ask task) = (task ≡ asked) × (stack ≡ below ++ kept ∷ [])
+IsTaken (Ask asked kept) below stack (next.End r) = ⊥
+IsTaken (End r) below stack (next.Ask task) = ⊥
+IsTaken (End r) below stack (next.End s) = (s ≡ r) × (stack ≡ below)
 
--- a row's outcome, from the outcome of what it asked
-abbrev pub finish : Pending → ℕ → Outcome → Outcome
-finish p depth o = carry (λ w r left. reach say w p.task (p.told ++ Answered r ∷ []) left depth) o
+-- a row comes to a step of which this holds, and which is taken
+abbrev pub Comes : (Step Kept → Type 0) → List Kept → List Kept → Next → Type 0
+Comes Is below stack next = (step : Step Kept) × Is step × IsTaken step below stack next
 
--- the outcome of the lowest frame, from the outcome of what the top frame asked
-abbrev pub unwind : ℕ → List Pending → Outcome → Outcome
-unwind depth [] o = o
-unwind depth (p ∷ ps) o = finish p depth (unwind (suc depth) ps o)
+-- the first step of a task
+abbrev pub IsFirst : Task → World → World → Step Kept → Type 0
+IsFirst task old new step = Begins task old new step × LeavesOpen of_kept bodies_in 0 old new (Ok step)
 
--- a row waits here: at each answer, it does what is done with that where this is kept
-abbrev pub Waits : Reading → Kept → Pending → Type 0
-Waits t kept p = (w : PlainWorld) (r : Ended) (more : Told) → say w p.task (p.told ++ Answered r ∷ more) ≡ stands t kept r w more
+-- the first step of a task that a row asked, at so great a depth: one that stands too deep ends at once
+abbrev pub IsFirstAbove : ℕ → Task → World → World → Step Kept → Type 0
+IsFirstAbove depth task old new step =
+    (depth < 1000 → IsFirst task old new step) × (1000 ≤ depth → (step ≡ End (fault DepthLimit)) × (new ≡ old))
 
--- such a row for each frame
-abbrev pub AllWait : Reading → List Kept → List Pending → Type 0
-AllWait t [] [] = Unit {0}
-AllWait t (kept ∷ stack) (p ∷ ps) = Waits t kept p × AllWait t stack ps
-AllWait t _ _ = ⊥
-
--- the row that has come to this step, where it asks
-abbrev pub WaitsAt : Reading → Step Kept → Pending → Type 0
-WaitsAt t (End r) p = Unit {0}
-WaitsAt t (Ask task kept) p = Waits t kept p
-
--- its outcome
-abbrev pub coming : Reading → Step Kept → Pending → PlainWorld → ℕ → ℕ → Outcome
-coming t (End r) p w left depth = Out w (Over (ended_of r)) left
-coming t (Ask task kept) p w zero depth = Out w NoUnits zero
-coming t (Ask task kept) p w (suc left) depth = finish p depth (asked (reach say) w (task_of t task) left (suc depth))
-
--- the first step of a task that a row asked, at so great a depth: what is asked comes to the same
-abbrev pub BeginsAt : ℕ → Task → World → World → Step Kept → Type 0
-BeginsAt depth task old new step =
-    (t : Reading) → Reads t new → Reads t old × (p : Pending) × WaitsAt t step p × ((left : ℕ) → asked (reach say) (plain t old) (task_of t task) left depth ≡ coming t step p (plain t new) left depth)
-
--- the machine is on its way to this outcome
-unfoldable pub Comes : Reading → World → List Kept → ℕ → Step Kept → Outcome → Type 0
-Comes t w stack left step o =
-    (ps : List Pending) × (p : Pending) × AllWait t stack ps × WaitsAt t step p × (unwind 0 ps (coming t step p (plain t w) left (length ps)) ≡ o)
+-- the next step of a row that was given an answer
+abbrev pub IsNext : Kept → Result Answer Fault → World → World → Step Kept → Type 0
+IsNext kept r old new step = Resumes kept r old new step × LeavesOpen of_kept bodies_in (bodies_in kept) old new (Ok step)
 
 -- how a command ended, in the terms of the plain machine
 abbrev pub ending_of : CodeEnd → Ending
@@ -69,18 +50,6 @@ Answers task old units new end =
 abbrev pub of_end : CodeEnd → List Claim
 of_end (code.Over r) = of_ended r
 of_end code.NoUnits = []
-
--- so many bodies run that the task did not begin, and besides them those that are open in the frames and in the step
-abbrev pub RunsAbove : ℕ → Held → List Kept → Step Kept → Type 0
-RunsAbove below w stack step = length w.scopes ≡ below + (sum_by bodies_in stack + left_open bodies_in step)
-
--- the machine is on its way to what a task comes to that began in the first world and may use so many units
-pub record IsOnItsWay (task : Task) (first : World) (units : ℕ) (w : World) (stack : List Kept) (left : ℕ) (step : Step Kept) : Type 0 where
-  pub outcome : (t : Reading) → Reads t w → Reads t first × Comes t w stack left step (reach say (plain t first) (task_of t task) [] units 0)
-  pub lasts : Lasts first w
-  pub bodies : RunsAbove (length first.scopes) w stack step
-  pub frames : AllHold w (of_each of_kept stack)
-  pub claims : AllHold w (of_step of_kept step)
 
 -- as many bodies run as before
 abbrev pub AsDeep : Held → Held → Type 0

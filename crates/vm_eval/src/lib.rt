@@ -4,11 +4,13 @@
 mod ask;
 pub mod calls;
 mod class_changes;
+mod first_steps;
 mod look_ahead;
 pub mod machine;
 mod makers;
 mod mark;
 pub mod natives;
+mod next_steps;
 mod nodes;
 pub mod protocols;
 mod run;

@@ -1,0 +1,10 @@
+use Rattle.vm_eval.proofs.Lemmas.{Ask, End, ForCall, bodies_of, call-among, ends-there, leaves-open-as, of_call_kept, refl, resumes-among, waits-on}
+use Rattle.vm_eval.proofs.next_steps.resume_call.Goals as goal
+
+pub returns-in-Ok-Ask-clause-goes : goal.returns-in-Ok-Ask-clause-goes
+returns-in-Ok-Ask-clause-goes c =
+    waits-on _ _ _ c.in-Ok-Ask.asked (ForCall c.in-Ok-Ask.kept) c.wait.result (resumes-among call-among c.args.kept c.args.answer _ _ (Ask c.in-Ok-Ask.asked c.in-Ok-Ask.kept) (rw (c.in-Ok-Ask.is, c.in-Ok-Ask.field-0-is) at c.resume.ensures.goes), leaves-open-as ForCall of_call_kept (λ k. refl) bodies_of (bodies_of c.args.kept) _ _ (Ask c.in-Ok-Ask.asked c.in-Ok-Ask.kept) (λ k. refl) (rw (c.in-Ok-Ask.is, c.in-Ok-Ask.field-0-is) at c.resume.ensures.safe)) c.wait.ensures.waits
+
+pub returns-in-Ok-End-clause-goes : goal.returns-in-Ok-End-clause-goes
+returns-in-Ok-End-clause-goes c =
+    ends-there _ _ c.in-Ok-End.answer (resumes-among call-among c.args.kept c.args.answer _ _ (End c.in-Ok-End.answer) (rw (c.in-Ok-End.is, c.in-Ok-End.field-0-is) at c.resume.ensures.goes), leaves-open-as ForCall of_call_kept (λ k. refl) bodies_of (bodies_of c.args.kept) _ _ (End c.in-Ok-End.answer) (λ k. refl) (rw (c.in-Ok-End.is, c.in-Ok-End.field-0-is) at c.resume.ensures.safe))
