@@ -33,8 +33,8 @@ use names::name_step;
 use operand::operand;
 use outcome::{Outcome, made};
 use py_node::{
-    Answer, BuiltIn, Cause, Constant, EvalTask, ExprRef, Form, Function, Kind, OutOfMemory, Payload,
-    PyObjectRef, PyStrInterned, Raised, Step, Task, Word,
+    Answer, BuiltIn, Cause, Constant, EvalTask, ExprRef, Form, Function, Kind, OutOfMemory,
+    Payload, PyObjectRef, PyStrInterned, Raised, Step, Task, Word,
 };
 use std::alloc::Global;
 use words::op_step;

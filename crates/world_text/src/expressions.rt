@@ -5,7 +5,9 @@ ghost use Rattle.std.specs.Prelude.{◌≡◌};
 ghost use Rattle.world_text.specs.Store.{Adds, HasName, HasNames, HasTree, HasTrees, HasPairs, HasEntries, HasForm};
 
 use class_world::World;
-use py_node::{CallParts, ClassParts, Constant, Expr, ExprRef, Form, FuncParts, OutOfMemory, PyStrInterned};
+use py_node::{
+    CallParts, ClassParts, Constant, Expr, ExprRef, Form, FuncParts, OutOfMemory, PyStrInterned,
+};
 
 /// Puts an expression into the store, and answers its number there.
 pub fn add_expr(world: &mut World, expr: &Expr) -> Result<ExprRef, OutOfMemory>
@@ -146,7 +148,10 @@ fn store_each(world: &mut World, exprs: &Vec<Expr>) -> Result<Vec<ExprRef>, OutO
 
 // Stores keys with their values, in order.
 #[cycle(store)]
-fn store_pairs(world: &mut World, pairs: &Vec<(Expr, Expr)>) -> Result<Vec<(ExprRef, ExprRef)>, OutOfMemory>
+fn store_pairs(
+    world: &mut World,
+    pairs: &Vec<(Expr, Expr)>,
+) -> Result<Vec<(ExprRef, ExprRef)>, OutOfMemory>
     ensures adds { Adds world.old world.new }
     ensures pairs { IfOk result (λ ps. HasPairs world.new ps.items (map pair_of pairs.now.items)) }
 {

@@ -13,8 +13,8 @@ use class_world::World;
 use class_world::args::copy_args;
 use py_node::task::{Args, Keywords};
 use py_node::{
-    Answer, AttributeTask, CallTask, Cause, EvalTask, ExprRef, Form, OutOfMemory, PyMethod, PyObjectRef,
-    PyStrInterned, Raised, Step, Task,
+    Answer, AttributeTask, CallTask, Cause, EvalTask, ExprRef, Form, OutOfMemory, PyMethod,
+    PyObjectRef, PyStrInterned, Raised, Step, Task,
 };
 use std::alloc::Global;
 

@@ -9,8 +9,8 @@ use crate::eval_forms::{EvalKept, object_of};
 use class_world::World;
 use class_world::limits::is_within_limit;
 use py_node::{
-    Answer, BuiltIn, Cause, EvalTask, ExprRef, Form, OutOfMemory, Payload, PyDict, PyObjectRef, Raised,
-    Step, Task,
+    Answer, BuiltIn, Cause, EvalTask, ExprRef, Form, OutOfMemory, Payload, PyDict, PyObjectRef,
+    Raised, Step, Task,
 };
 
 // Keys with their values.

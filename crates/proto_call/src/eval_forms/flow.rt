@@ -10,7 +10,11 @@ use class_world::{Fixed, World};
 use py_node::{Answer, Cause, EvalTask, ExprRef, ProtocolTask, PyObjectRef, Raised, Step, Task};
 
 // Whether the condition counts as true is asked.
-pub(crate) fn if_step(chosen: ExprRef, other: ExprRef, condition: Option<PyObjectRef>) -> Step<EvalKept>
+pub(crate) fn if_step(
+    chosen: ExprRef,
+    other: ExprRef,
+    condition: Option<PyObjectRef>,
+) -> Step<EvalKept>
     ensures goes { (w : World) → Goes (λ t u. if_say u (t.tree chosen.0) (t.tree other.0) condition) w w result }
     ensures safe { (w : World) → Holds w (IsExpression chosen) → Holds w (IsExpression other) →
         AllHold w (of_option of_node_ref condition) → AllHold w (of_step of_eval_kept result) }
