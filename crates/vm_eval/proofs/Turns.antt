@@ -1,5 +1,5 @@
 -- One turn of the machine keeps the outcome, whatever the rows are.
-use Rattle.vm_eval.proofs.Below.{ℕ, zero, suc, List, [], length, Ok, Err, IfOk, Bool, refl, subst, sym, ap, ◌∙◌, arith, zero-add, true, false, cond, nat_lt, lt-ltb, le-ltb, ltb-true, ltb-false, length-append, append_assoc, sum_by_push, DepthLimit, Raised as Fault, Answer, Task, Step, Ask, End, PlainWorld, PlainTask, Answered, Told, Said, Asks, Ends, fault, Over, NoUnits, Outcome, Out, asked, step, reach, reach-is, steps-on, World, Reading, Reads, plain, task_of, ended_of, Steps, AllHold, of_task, LeavesOpen, each-pop, each-push, all-first, all-last, all-rest, lasts-on, same-lasts, Kept, say, stands, of_kept, bodies_in, Begins, Resumes, Reaches, IsTaken, Comes, IsFirst, IsFirstAbove, IsNext, EndsDeep}
+use Rattle.vm_eval.proofs.Below.{ℕ, zero, suc, List, [], length, Ok, Err, IfOk, Bool, refl, subst, sym, ap, ◌∙◌, arith, zero-add, true, false, cond, nat_lt, le-ltb, ltb-true, ltb-false, length-append, append_assoc, sum_by_push, DepthLimit, Raised as Fault, Answer, Task, Step, Ask, End, PlainWorld, PlainTask, Answered, Told, Said, Asks, Ends, fault, Over, NoUnits, Outcome, Out, asked, step, reach, reach-is, steps-on, World, Reading, Reads, plain, task_of, ended_of, Steps, AllHold, of_task, LeavesOpen, each-pop, each-push, all-first, all-last, all-rest, lasts-on, same-lasts, Kept, say, stands, of_kept, bodies_in, Begins, Resumes, Reaches, IsTaken, Comes, IsFirst, IsFirstAbove, IsNext, EndsDeep}
 use Rattle.vm_eval.proofs.Way.{Pending, finish, unwind, coming, AllWait, Waits, WaitsAt, BeginsAt, IsOnItsWay, IsUnderWay, turns_more}
 unfoldable use Rattle.vm_eval.proofs.Way.{LeadsTo}
 use Rattle.std.proofs.Common.{◌≡◌, ◌+◌, ◌<◌, ◌≤◌, ◌∷◌, ◌++◌}

@@ -14,6 +14,6 @@ next_operand-requires-clause-fits c =
     let long = ap (λ o. length (operands_at o)) h.1 in
     rw c.in_ok-values.ensures (omega (arith, l, within, long))
 
-pub returns-clause-goes : goal.returns-in_ok-values-clause-goes
+pub returns-clause-goes : goal.returns-clause-goes
 returns-clause-goes c =
     one-more c.args.world.now c.next_operand.new.world c.args.e c.args.values c.in_ok-values.values c.args.value c.next_operand.result c.in_ok-values.ensures c.next_operand.ensures.goes

@@ -1,5 +1,4 @@
 use Rattle.vm_eval.proofs.Lemmas.{◌∙◌, sym, family-begins, plain-begins, sorted_ends, items-family, conversions-family, comparisons-family, repeats-family, details-family, calls-family}
-use Rattle.py_node.specs.declared.task.Task.TheVariants as task
 use Rattle.vm_eval.proofs.natives.begin.Goals as goal
 
 pub returns-in_ok-step-in-Items-clause-goes : goal.returns-in_ok-step-in-Items-clause-goes
@@ -8,11 +7,11 @@ returns-in_ok-step-in-Items-clause-goes c =
     let step = c.in_ok-step-in-Items in
     family-begins items-family a.entry a.args a.kw _ _ step.step c.of_items.result (sym c.family_of.ensures ∙ c.in-Items.is) c.of_items.ensures.step step.ensures.goes
 
-pub returns-in_ok-step-in-Parts-clause-goes : goal.returns-in_ok-step-in-Parts-clause-goes
-returns-in_ok-step-in-Parts-clause-goes c =
+pub returns-in_ok-step-in-Conversions-clause-goes : goal.returns-in_ok-step-in-Conversions-clause-goes
+returns-in_ok-step-in-Conversions-clause-goes c =
     let a = c.args in
-    let step = c.in_ok-step-in-Parts in
-    family-begins conversions-family a.entry a.args a.kw _ _ step.step c.of_conversions.result (sym c.family_of.ensures ∙ c.in-Parts.is) c.of_conversions.ensures.step step.ensures.goes
+    let step = c.in_ok-step-in-Conversions in
+    family-begins conversions-family a.entry a.args a.kw _ _ step.step c.of_conversions.result (sym c.family_of.ensures ∙ c.in-Conversions.is) c.of_conversions.ensures.step step.ensures.goes
 
 pub returns-in_ok-step-in-Comparisons-clause-goes : goal.returns-in_ok-step-in-Comparisons-clause-goes
 returns-in_ok-step-in-Comparisons-clause-goes c =

@@ -1,5 +1,5 @@
-use Rattle.vm_eval.proofs.Lemmas.{[], arith, ap, length, lasts-on, all-rest, each-pop, of_kept, no-frames, under-way, ended, resumed-next, began-next, comes-more, asked-holds, over, spent-next, runs-on}
-use Rattle.std.proofs.Common.{◌≡◌, ◌+◌, ◌-◌}
+use Rattle.vm_eval.proofs.Lemmas.{[], arith, each-pop, of_kept, no-frames, under-way, ended, resumed-next, began-next, asked-holds, over, spent-next}
+use Rattle.std.proofs.Common.{◌≡◌, ◌-◌}
 use Rattle.vm_eval.proofs.stack.take_turns.Goals as goal
 
 pub turns-init : goal.turns-init

@@ -1,4 +1,5 @@
-use Rattle.proto_call.proofs.Lemmas.{sym, ap, ◌∙◌, rules, w64, FitsSigned, to_z-of_z, pass, plain, ended_of, Count, counted_task, with_index, asks-then, made, start}
+use Rattle.proto_call.proofs.Lemmas.{sym, ap, ◌∙◌, rules, w64, FitsSigned, to_z-of_z, pass, plain, ended_of, Count, counted_task, with_index, asks-then, start}
+use Rattle.proto_call.specs.EvalForms.Words.{made}
 use Rattle.proto_call.proofs.eval_forms.bounds.with_count.Goals as goal
 
 pub returns-in-Ok-clause-goes : goal.returns-in-Ok-clause-goes
