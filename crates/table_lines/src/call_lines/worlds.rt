@@ -7,8 +7,8 @@ ghost use Rattle.class_world.specs.Sound.{Holds, Holding, IsNode};
 use crate::{NoValue, Table};
 use class_world::{Fixed, World};
 use py_node::{
-    BuiltIn, Constant, Expr, ExprRef, Known, OutOfMemory, Payload, PyDict, PyObjectRef, PyStrInterned,
-    PyTypeRef,
+    BuiltIn, Constant, Expr, ExprRef, Known, OutOfMemory, Payload, PyDict, PyObjectRef,
+    PyStrInterned, PyTypeRef,
 };
 use world_text::expressions::add_expr;
 use world_text::show::show;
