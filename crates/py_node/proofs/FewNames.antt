@@ -93,34 +93,34 @@ module _ {V : Type 0} where
   -- no name stands twice, whichever one gets a value or is taken out
   all-with : (P : PyStrInterned → Type 0) (es : List (PyStrInterned × V)) (n : PyStrInterned) (v : V) → AllByRecursion P (keys_of es) → P n → AllByRecursion P (keys_of (with_value is_same_name es n v))
   all-with P [] n v h p = (p, tt)
-  all-with P (e ∷ es) n v h p = go (is_same_name e.0 n)
+  all-with P (e ∷ es) n v h p = go (is_same_name e.0 n) (all-with P es n v h.1 p)
     where
-      go : (b : Bool) → AllByRecursion P (keys_of (cond b ((e.0, v) ∷ es) (e ∷ with_value is_same_name es n v)))
-      go true = h
-      go false = (h.0, all-with P es n v h.1 p)
+      go : (b : Bool) → AllByRecursion P (keys_of (with_value is_same_name es n v)) → AllByRecursion P (keys_of (cond b ((e.0, v) ∷ es) (e ∷ with_value is_same_name es n v)))
+      go true more = h
+      go false more = (h.0, more)
 
   pub distinct-with : (es : List (PyStrInterned × V)) (n : PyStrInterned) (v : V) → AreNamesDistinct es → AreNamesDistinct (with_value is_same_name es n v)
   unfolding IsDistinct
   distinct-with [] n v apart = (tt, tt)
-  distinct-with (e ∷ es) n v apart = go (is_same_name e.0 n) refl
+  distinct-with (e ∷ es) n v apart = go (is_same_name e.0 n) refl (distinct-with es n v apart.1)
     where
-      go : (b : Bool) → is_same_name e.0 n ≡ b → AreNamesDistinct (cond b ((e.0, v) ∷ es) (e ∷ with_value is_same_name es n v))
-      go true h = apart
-      go false h = (all-with (λ k. is_same_name e.0 k ≡ false) es n v apart.0 h, distinct-with es n v apart.1)
+      go : (b : Bool) → is_same_name e.0 n ≡ b → AreNamesDistinct (with_value is_same_name es n v) → AreNamesDistinct (cond b ((e.0, v) ∷ es) (e ∷ with_value is_same_name es n v))
+      go true h more = apart
+      go false h more = (all-with (λ k. is_same_name e.0 k ≡ false) es n v apart.0 h, more)
 
   all-without : (P : PyStrInterned → Type 0) (es : List (PyStrInterned × V)) (n : PyStrInterned) → AllByRecursion P (keys_of es) → AllByRecursion P (keys_of (without_key is_same_name es n))
   all-without P [] n h = tt
-  all-without P (e ∷ es) n h = go (is_same_name e.0 n)
+  all-without P (e ∷ es) n h = go (is_same_name e.0 n) (all-without P es n h.1)
     where
-      go : (b : Bool) → AllByRecursion P (keys_of (cond b (without_key is_same_name es n) (e ∷ without_key is_same_name es n)))
-      go true = all-without P es n h.1
-      go false = (h.0, all-without P es n h.1)
+      go : (b : Bool) → AllByRecursion P (keys_of (without_key is_same_name es n)) → AllByRecursion P (keys_of (cond b (without_key is_same_name es n) (e ∷ without_key is_same_name es n)))
+      go true more = more
+      go false more = (h.0, more)
 
   pub distinct-without : (es : List (PyStrInterned × V)) (n : PyStrInterned) → AreNamesDistinct es → AreNamesDistinct (without_key is_same_name es n)
   unfolding IsDistinct
   distinct-without [] n apart = tt
-  distinct-without (e ∷ es) n apart = go (is_same_name e.0 n)
+  distinct-without (e ∷ es) n apart = go (is_same_name e.0 n) (distinct-without es n apart.1)
     where
-      go : (b : Bool) → AreNamesDistinct (cond b (without_key is_same_name es n) (e ∷ without_key is_same_name es n))
-      go true = distinct-without es n apart.1
-      go false = (all-without (λ k. is_same_name e.0 k ≡ false) es n apart.0, distinct-without es n apart.1)
+      go : (b : Bool) → AreNamesDistinct (without_key is_same_name es n) → AreNamesDistinct (cond b (without_key is_same_name es n) (e ∷ without_key is_same_name es n))
+      go true more = more
+      go false more = (all-without (λ k. is_same_name e.0 k ≡ false) es n apart.0, more)

@@ -192,5 +192,6 @@ fn put_in(
 fn take_out(map: &mut IndexMap<PyStrInterned, PyObjectRef>, name: PyStrInterned)
     ensures { map.new.entries ≡ without_key is_same_name map.old.entries name }
 {
+    let _count = map.len();
     map.shift_remove(&name);
 }

@@ -67,16 +67,15 @@ impl FewAttributes {
         ensures ok { OnOk result (self.new ≡ with_value is_same_name self.old name value) }
         ensures err { OnErr result (self.new ≡ self.old) }
     {
-        put_among(&mut self.entries, name, value)
+        put_among(&mut self.entries, name, value)?;
+        Ok(())
     }
 
     /// Takes a name out. The names after it keep their order.
     pub(crate) fn remove(&mut self, name: PyStrInterned)
         ensures { self.new ≡ without_key is_same_name self.old name }
     {
-        if let Some(place) = place_among(&self.entries, name) {
-            self.entries.remove(place);
-        }
+        cut_among(&mut self.entries, name);
     }
 
     /// The same names with the same values, unless memory runs out.
@@ -129,4 +128,17 @@ fn put_among(
         Some(place) => entries[place] = (name, value),
     }
     Ok(())
+}
+
+// Takes a name out of a few. The names after it keep their order.
+fn cut_among(entries: &mut Vec<(PyStrInterned, PyObjectRef)>, name: PyStrInterned)
+    requires { AreNamesDistinct entries.old.items }
+    ensures { entries.new.items ≡ without_key is_same_name entries.old.items name }
+{
+    match place_among(entries, name) {
+        None => {}
+        Some(place) => {
+            entries.remove(place);
+        }
+    }
 }
