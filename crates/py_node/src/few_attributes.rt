@@ -102,10 +102,7 @@ fn place_among(entries: &[(PyStrInterned, PyObjectRef)], name: PyStrInterned) ->
 }
 
 // The value of a name among a few, if it is there.
-fn value_among(
-    entries: &[(PyStrInterned, PyObjectRef)],
-    name: PyStrInterned,
-) -> Option<PyObjectRef>
+fn value_among(entries: &[(PyStrInterned, PyObjectRef)], name: PyStrInterned) -> Option<PyObjectRef>
     ensures { result ≡ value_of (λ k. is_same_name k name) entries.now }
 {
     match place_among(entries, name) {

@@ -1,8 +1,9 @@
-use Rattle.std.proofs.Common.{rules, ◌≡◌, ◌<◌, ℕ, ◌+◌, ◌-◌, ◌*◌, ◌≤◌, ◌/◌, ◌%◌, Bool, true, false, nat_eq, nat_lt, List, ◌∷◌, ◌++◌, slice_index_or, slice_set, bit_and, bit_or, Fits, w8, w32, w64, Bor, MutBor}
-use Rattle.py_node.specs.Below.{[], length, is_some, Some, slice_get, IfOk, OnOk, OnErr}
-use Rattle.py_node.specs.Attributes.{value_of, with_value, without_key, is_same_name, AreNamesDistinct}
+use Rattle.py_node.proofs.Lemmas.{ap, ◌∙◌, with_value, is_same_name, insert_entry-with_value, map-next}
 use Rattle.py_node.proofs.attributes.same_map.Goals as goal
 
--- src/attributes.rt:172:5
 pub loop-entry-preserved : goal.loop-entry-preserved
-loop-entry-preserved c = ?
+loop-entry-preserved c =
+    c.in_ok-insert.ensures.entries
+    ∙ insert_entry-with_value c.loop-entry.map.entries _ _
+    ∙ ap (λ m. with_value is_same_name m _ _) c.loop-entry.invariant
+    ∙ map-next c.args.entries.now c.loop-entry.entry-index _ c.requires c.loop-entry-test.true

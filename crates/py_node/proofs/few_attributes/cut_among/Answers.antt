@@ -1,12 +1,15 @@
-use Rattle.std.proofs.Common.{rules, ◌≡◌, ◌<◌, ℕ, ◌+◌, ◌-◌, ◌*◌, ◌≤◌, ◌/◌, ◌%◌, Bool, true, false, nat_eq, nat_lt, List, ◌∷◌, ◌++◌, slice_index_or, slice_set, bit_and, bit_or, Fits, w8, w32, w64, Bor, MutBor}
-use Rattle.py_node.specs.Below.{[], position, length, IfOk, IfSome, OnOk, OnErr}
-use Rattle.py_node.specs.Attributes.{value_of, with_value, without_key, is_same_name, AreNamesDistinct}
+use Rattle.py_node.proofs.Lemmas.{sym, subst, ◌∙◌, List, None, Some, position, is_of, cut-absent, cut-found, PyObjectRef, PyStrInterned}
+use Rattle.std.proofs.Common.{◌≡◌}
 use Rattle.py_node.proofs.few_attributes.cut_among.Goals as goal
 
--- src/few_attributes.rt:134:1
 pub returns-in-None : goal.returns-in-None
-returns-in-None c = ?
+returns-in-None c =
+    let nowhere : position (is_of c.args.name) c.args.entries.now.items ≡ None =
+    subst (λ (es : List (PyStrInterned × PyObjectRef)). position (is_of c.args.name) es ≡ None) c.deref.ensures.value (sym c.place_among.ensures.first ∙ c.in-None.is) in
+    cut-absent c.args.name c.args.entries.now.items nowhere
 
--- src/few_attributes.rt:134:1
 pub returns-in-Some : goal.returns-in-Some
-returns-in-Some c = ?
+returns-in-Some c =
+    let there : position (is_of c.args.name) c.args.entries.now.items ≡ Some c.in-Some.place =
+    subst (λ (es : List (PyStrInterned × PyObjectRef)). position (is_of c.args.name) es ≡ Some c.in-Some.place) c.deref.ensures.value (sym c.place_among.ensures.first ∙ c.in-Some.is) in
+    c.remove.ensures.items ∙ cut-found c.args.name c.args.entries.now.items c.in-Some.place c.remove.result c.requires there
