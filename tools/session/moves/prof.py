@@ -3,7 +3,7 @@
 import sys, importlib.machinery, importlib.util, subprocess, re, os, tempfile
 word, top, prog = sys.argv[1], int(sys.argv[2]), sys.argv[3]
 argv, sys.argv = sys.argv, ["x"]
-l=importlib.machinery.SourceFileLoader("c","/work/c/moves/bench/commands"); m=importlib.util.module_from_spec(importlib.util.spec_from_loader("c",l)); l.exec_module(m)
+l=importlib.machinery.SourceFileLoader("c","/work/main/bench/commands"); m=importlib.util.module_from_spec(importlib.util.spec_from_loader("c",l)); l.exec_module(m)
 def run(n, before, command):
     out = tempfile.mktemp(dir="/work/b/moves")
     text = m.growth.script(before + [command]*n)
