@@ -34,7 +34,7 @@ unfoldable pub use Rattle.class_table.specs.Start.{start_classes, with_own}
 pub use Rattle.class_table.specs.declared.fault.ClassFault.{ClassFault}
 pub use Rattle.class_table.specs.declared.fault.ClassFault.TheVariants.{OutOfMemory, Refused, RefusedAt}
 pub use Rattle.class_world.specs.Added.{AreEmpty, HasNoEntries, IsEmptyDict, number_of_object, with_object}
-pub use Rattle.class_world.specs.Below.{AreDistinct, Assign, Attr, BuiltIn, Cause, Change, Delete, Form, IsSome, IsTrue, Keeps, Known, Node, Payload, PlainDict, PyDictKey, PyObjectRef, PyProperty, PySetterValue, PyStrInterned, PyTypeRef, Started, Step, Vec, dict_pushed, dict_put, dict_removed, empty_dict, filled, fixed_node_count, fixed_none, heap_flags, heap_type, is_none, is_same_key, is_some, known_texts, limit, ltb, method_descriptor, nat_lt, natives_of, none, number_of, numbers, offset_of, option_and_then, option_map, option_or, own_attrs, pos, position, put_at, refused_single, running, says_so, slice_get, slice_set, slot_names, static_flags, string_bytes, table_keys, the_bool, the_dict, the_none_type, the_not_implemented_type, the_str, two_of, value_at, value_at_place, with_value_at_place}
+pub use Rattle.class_world.specs.Below.{AreDistinct, Assign, Attr, BuiltIn, Cause, Change, Delete, ExprRef, Form, IsSome, IsTrue, Keeps, Known, Node, Payload, PlainDict, PyDictKey, PyObjectRef, PyProperty, PySetterValue, PyStrInterned, PyTypeRef, Started, Step, Vec, dict_pushed, dict_put, dict_removed, empty_dict, filled, fixed_node_count, fixed_none, heap_flags, heap_type, is_none, is_same_key, is_some, known_texts, limit, ltb, method_descriptor, nat_lt, natives_of, none, number_of, numbers, offset_of, option_and_then, option_map, option_or, own_attrs, pos, position, put_at, refused_single, running, says_so, slice_get, slice_set, slot_names, static_flags, string_bytes, table_keys, the_bool, the_dict, the_none_type, the_not_implemented_type, the_str, two_of, value_at, value_at_place, with_value_at_place}
 pub use Rattle.class_world.specs.Bound.{bound_scopes, bound_vars, last_function, last_value}
 pub use Rattle.class_world.specs.Claims.{Leaves, LeavesOpen, left_open, of_setter, of_step}
 pub use Rattle.class_world.specs.Defined.{defined_node, defined_payload, or_class_ref, with_parts}

@@ -1,15 +1,15 @@
 -- Each change of a world keeps it sound.
-use Rattle.class_world.proofs.Below.{true, ℕ, zero, suc, List, [], length, Some, None, refl, subst, arith, get_or, map, slice_get, All, PyStrInterned, Node, Form, is_class, Held, IsBelow, AreBelow, IsNode, IsClass, class_in, held_class, Holds, AllHold, Lasts, of_node, of_form, SoundWith, Sound}
+use Rattle.class_world.proofs.Below.{true, ℕ, zero, suc, List, [], length, Some, None, refl, ap, subst, arith, get_or, map, slice_get, All, ExprRef, PyStrInterned, Node, Form, is_class, Held, IsBelow, AreBelow, IsNode, IsClass, class_in, held_class, Holds, AllHold, Lasts, of_node, of_form, SoundWith, Sound}
 use Rattle.std.proofs.Common.{◌≡◌, ◌+◌, ◌<◌, ◌≤◌, ◌∷◌, ◌++◌}
 use Rattle.py_node.specs.declared.payload.Form.TheVariants as form
 use Rattle.class_world.proofs.Claims.{all-grow, each-push}
 use Rattle.class_world.proofs.Growth.{grows-lasts, node-grows, form-grows, names-grow}
 
 -- what holds of what each item has holds of each item
-all-unmap : {A : Type 0} (f : A → ℕ) (n : ℕ) (es : List A) → All (λ e. e < n) (map f es) → All (λ e. f e < n) es
-all-unmap {A} f n es h = λ i d l. go es i d l (λ j l. h j 0 l)
+all-unmap : {A : Type 0} (f : A → ExprRef) (n : ℕ) (es : List A) → All (λ e. e.0 < n) (map f es) → All (λ e. (f e).0 < n) es
+all-unmap {A} f n es h = λ i d l. go es i d l (λ j l. h j (f d) l)
   where
-    at : (es : List A) (i d : ℕ) (e : A) → i < length es → get_or (map f es) i d ≡ f (get_or es i e)
+    at : (es : List A) (i : ℕ) (d : ExprRef) (e : A) → i < length es → get_or (map f es) i d ≡ f (get_or es i e)
     at [] i d e l = absurd (omega arith)
     at (x ∷ es) zero d e l = refl
     at (x ∷ es) (suc i) d e l = at es i d e (omega arith)
@@ -18,11 +18,11 @@ all-unmap {A} f n es h = λ i d l. go es i d l (λ j l. h j 0 l)
     long [] = refl
     long (x ∷ es) = let r = long es in omega arith
 
-    go : (es : List A) (i : ℕ) (d : A) → i < length es → ((j : ℕ) → j < length (map f es) → get_or (map f es) j 0 < n) → f (get_or es i d) < n
-    go es i d l k = let p = k i (omega (arith, long es)) in let e = at es i 0 d l in omega arith
+    go : (es : List A) (i : ℕ) (d : A) → i < length es → ((j : ℕ) → j < length (map f es) → (get_or (map f es) j (f d)).0 < n) → (f (get_or es i d)).0 < n
+    go es i d l k = let p = k i (omega (arith, long es)) in let e = ap (λ (x : ExprRef). x.0) (at es i (f d) d l) in omega arith
 
-all-stored : (n : ℕ) (es : List (PyStrInterned × ℕ)) → All (λ e. e < n) (map (λ e. e.1) es) → All (λ e. e.1 < n) es
-all-stored n es h = all-unmap (λ (e : PyStrInterned × ℕ). e.1) n es h
+all-stored : (n : ℕ) (es : List (PyStrInterned × ExprRef)) → All (λ e. e.0 < n) (map (λ e. e.1) es) → All (λ e. e.1.0 < n) es
+all-stored n es h = all-unmap (λ (e : PyStrInterned × ExprRef). e.1) n es h
 
 -- an expression of what is there has its parts before it
 pub form-below : (w : Held) (f : Form) → AllHold w (of_form f) → IsBelow (length w.forms) f
@@ -34,7 +34,7 @@ form-below w (form.Tuple es) h = h.0
 form-below w (form.List es) h = h.0
 form-below w (form.Dict ps) h =
     let n = length w.forms in
-    (all-unmap (λ (p : ℕ × ℕ). p.0) n ps.items h.0, all-unmap (λ (p : ℕ × ℕ). p.1) n ps.items h.1.0)
+    (all-unmap (λ (p : ExprRef × ExprRef). p.0) n ps.items h.0, all-unmap (λ (p : ExprRef × ExprRef). p.1) n ps.items h.1.0)
 form-below w (form.Func parts) h = h.1.1.0
 form-below w (form.Attr o x) h = h.0
 form-below w (form.SetAttr o x e) h = (h.0, h.1.1.0)

@@ -1,5 +1,5 @@
 -- Lists of claims.
-use Rattle.class_world.proofs.Below.{ℕ, zero, suc, List, [], length, take, Some, refl, sym, ap, subst, arith, get_or, map, slice_get, Held, PyObjectRef, Claim, IsNode, AreNodes, IsExpression, AreExpressions, Holds, AllHold, Lasts, Grows, of_each}
+use Rattle.class_world.proofs.Below.{ℕ, zero, suc, List, [], length, take, Some, refl, sym, ap, subst, arith, get_or, map, slice_get, Held, ExprRef, PyObjectRef, Claim, IsNode, AreNodes, IsExpression, AreExpressions, Holds, AllHold, Lasts, Grows, of_each}
 use Rattle.std.proofs.Common.{◌≡◌, ◌<◌, ◌∷◌, ◌++◌}
 
 pub all-last : (old new : Held) → Lasts old new → (cs : List Claim) → AllHold old cs → AllHold new cs
@@ -111,8 +111,8 @@ node-in w [] n r h e = cc
 node-in w (s ∷ rs) zero r h e = let same : s ≡ r = cc in subst (λ r. r.0 < length w.nodes) same (h 0 s (omega arith))
 node-in w (s ∷ rs) (suc n) r h e = node-in w rs n r (λ i d l. h (suc i) d (omega arith)) e
 
-pub expression-in : (w : Held) (es : List ℕ) (n e : ℕ) → Holds w (AreExpressions es) → slice_get es n ≡ Some e → Holds w (IsExpression e)
+pub expression-in : (w : Held) (es : List ExprRef) (n : ℕ) (e : ExprRef) → Holds w (AreExpressions es) → slice_get es n ≡ Some e → Holds w (IsExpression e)
 unfolding Holds
 expression-in w [] n e h k = cc
-expression-in w (x ∷ es) zero e h k = let same : x ≡ e = cc in subst (λ e. e < length w.forms) same (h 0 x (omega arith))
+expression-in w (x ∷ es) zero e h k = let same : x ≡ e = cc in subst (λ e. e.0 < length w.forms) same (h 0 x (omega arith))
 expression-in w (x ∷ es) (suc n) e h k = expression-in w es n e (λ i d l. h (suc i) d (omega arith)) k

@@ -80,7 +80,7 @@ payload-read t c (payload.Text s) = refl
 payload-read t c (payload.Tuple rs) = refl
 payload-read t c (payload.List rs) = refl
 payload-read t c (payload.Dict es) = refl
-payload-read t c (payload.Function f) = ap (AFunction (spelled t f.value.name) (map (spelled t) f.value.params.items) f.value.rest (t.tree f.value.body)) (go f.value.class)
+payload-read t c (payload.Function f) = ap (AFunction (spelled t f.value.name) (map (spelled t) f.value.params.items) f.value.rest (t.tree f.value.body.0)) (go f.value.class)
   where
     go : (o : Option PyTypeRef) → option_map (λ d. d.0) (or_class_ref o c) ≡ or_class (option_map (λ d. d.0) o) c.0
     go None = refl

@@ -1,5 +1,5 @@
 -- The tables of a world can be read: names past the table are long, and trees go down.
-use Rattle.class_world.proofs.Below.{ℕ, zero, suc, List, [], length, replicate, Option, Some, None, Bool, true, false, eqb, refl, sym, ap, ◌∙◌, arith, map, slice_get, All, eq-eqb, eqb-true, bytes_eq-Decides, length-replicate, PyStrInterned, Form, AreDistinct, Text, Tree, TConst, TTuple, TList, TDict, TOp, TSeq, LNone, trees_of, keyed_of, is_text, World, IsBelow, AreBelow, form_tree, stored_entries, IsReadable}
+use Rattle.class_world.proofs.Below.{ℕ, zero, suc, List, [], length, replicate, Option, Some, None, Bool, true, false, eqb, refl, sym, ap, ◌∙◌, arith, map, slice_get, All, eq-eqb, eqb-true, bytes_eq-Decides, length-replicate, ExprRef, PyStrInterned, Form, AreDistinct, Text, Tree, TConst, TTuple, TList, TDict, TOp, TSeq, LNone, trees_of, keyed_of, is_text, World, IsBelow, AreBelow, form_tree, stored_entries, IsReadable}
 use Rattle.std.proofs.Common.{◌≡◌, ◌+◌, ◌<◌, ◌≤◌, ◌∷◌}
 use Rattle.py_node.specs.declared.payload.Form.TheVariants as form
 
@@ -57,50 +57,50 @@ tree_at : (ℕ → Text) → List Form → ℕ → ℕ → Tree
 tree_at text forms zero n = blank
 tree_at text forms (suc bound) n = tree_from text (tree_at text forms bound) (slice_get forms n)
 
-abbrev both : (ℕ → Tree) → ℕ × ℕ → Tree × Tree
-both f p = (f p.0, f p.1)
+abbrev both : (ℕ → Tree) → ExprRef × ExprRef → Tree × Tree
+both f p = (f p.0.0, f p.1.0)
 
 module _ (text : ℕ → Text) (f g : ℕ → Tree) (n : ℕ) (h : (a : ℕ) → a < n → f a ≡ g a) where
-  map-agrees : (es : List ℕ) → All (λ e. e < n) es → map f es ≡ map g es
+  map-agrees : (es : List ExprRef) → All (λ e. e.0 < n) es → map (λ e. f e.0) es ≡ map (λ e. g e.0) es
   map-agrees [] b = refl
   map-agrees (e ∷ es) b =
-      let here : e < n = b 0 0 (omega arith) in
+      let here : e.0 < n = b 0 e (omega arith) in
       let rest = map-agrees es (λ i d l. b (suc i) d (omega arith)) in
-      cc (h e here, rest)
+      cc (h e.0 here, rest)
 
-  trees-agree : (es : List ℕ) → All (λ e. e < n) es → trees_of (map f es) ≡ trees_of (map g es)
+  trees-agree : (es : List ExprRef) → All (λ e. e.0 < n) es → trees_of (map (λ e. f e.0) es) ≡ trees_of (map (λ e. g e.0) es)
   trees-agree es b = ap trees_of (map-agrees es b)
 
-  pairs-agree : (ps : List (ℕ × ℕ)) → All (λ p. p.0 < n) ps → All (λ p. p.1 < n) ps
+  pairs-agree : (ps : List (ExprRef × ExprRef)) → All (λ p. p.0.0 < n) ps → All (λ p. p.1.0 < n) ps
       → map (both f) ps ≡ map (both g) ps
   pairs-agree [] b c = refl
   pairs-agree (p ∷ ps) b c =
-      let key : p.0 < n = b 0 p (omega arith) in
-      let value : p.1 < n = c 0 p (omega arith) in
+      let key : p.0.0 < n = b 0 p (omega arith) in
+      let value : p.1.0 < n = c 0 p (omega arith) in
       let rest = pairs-agree ps (λ i d l. b (suc i) d (omega arith)) (λ i d l. c (suc i) d (omega arith)) in
-      cc (h p.0 key, h p.1 value, rest)
+      cc (h p.0.0 key, h p.1.0 value, rest)
 
-  entries-agree : (es : List (PyStrInterned × ℕ)) → All (λ e. e.1 < n) es → stored_entries text f es ≡ stored_entries text g es
+  entries-agree : (es : List (PyStrInterned × ExprRef)) → All (λ e. e.1.0 < n) es → stored_entries text f es ≡ stored_entries text g es
   entries-agree [] b = refl
   entries-agree (e ∷ es) b =
-      let here : e.1 < n = b 0 e (omega arith) in
+      let here : e.1.0 < n = b 0 e (omega arith) in
       let rest = entries-agree es (λ i d l. b (suc i) d (omega arith)) in
-      cc (h e.1 here, rest)
+      cc (h e.1.0 here, rest)
 
   form_tree-agrees : (x : Form) → IsBelow n x → form_tree text f x ≡ form_tree text g x
   form_tree-agrees (form.Const k) b = refl
   form_tree-agrees (form.Name x) b = refl
-  form_tree-agrees (form.Bind x e) b = cc (h e b)
+  form_tree-agrees (form.Bind x e) b = cc (h e.0 b)
   form_tree-agrees (form.Tuple es) b = ap TTuple (trees-agree es.items b)
   form_tree-agrees (form.List es) b = ap TList (trees-agree es.items b)
   form_tree-agrees (form.Dict ps) b = ap (λ l. TDict (keyed_of l)) (pairs-agree ps.items b.0 b.1)
-  form_tree-agrees (form.Func parts) b = cc (h parts.value.body b)
-  form_tree-agrees (form.Attr o x) b = cc (h o b)
-  form_tree-agrees (form.SetAttr o x e) b = cc (h o b.0, h e b.1)
-  form_tree-agrees (form.DelAttr o x) b = cc (h o b)
-  form_tree-agrees (form.Call parts) b = cc (h parts.value.function b.0, trees-agree parts.value.args.items b.1, entries-agree parts.value.keywords.items b.2)
+  form_tree-agrees (form.Func parts) b = cc (h parts.value.body.0 b)
+  form_tree-agrees (form.Attr o x) b = cc (h o.0 b)
+  form_tree-agrees (form.SetAttr o x e) b = cc (h o.0 b.0, h e.0 b.1)
+  form_tree-agrees (form.DelAttr o x) b = cc (h o.0 b)
+  form_tree-agrees (form.Call parts) b = cc (h parts.value.function.0 b.0, trees-agree parts.value.args.items b.1, entries-agree parts.value.keywords.items b.2)
   form_tree-agrees (form.Op word es) b = ap (TOp word) (trees-agree es.items b)
-  form_tree-agrees (form.If c k l) b = cc (h c b.0, h k b.1, h l b.2)
+  form_tree-agrees (form.If c k l) b = cc (h c.0 b.0, h k.0 b.1, h l.0 b.2)
   form_tree-agrees (form.Seq es) b = ap TSeq (trees-agree es.items b)
   form_tree-agrees (form.Raise kind) b = refl
   form_tree-agrees (form.Class parts) b = cc (trees-agree parts.value.bases.items b.0, entries-agree parts.value.keywords.items b.1, entries-agree parts.value.entries.items b.2)

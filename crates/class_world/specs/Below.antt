@@ -68,6 +68,7 @@ pub use Rattle.py_node.specs.declared.protocol.ProtocolTask.{ProtocolTask}
 pub use Rattle.py_node.specs.declared.raised.Cause.{Cause}
 pub use Rattle.py_node.specs.declared.raised.Cause.TheVariants.{QualnameType}
 pub use Rattle.py_node.specs.declared.raised.Raised.{Raised}
+pub use Rattle.py_node.specs.declared.refs.ExprRef.{ExprRef}
 pub use Rattle.py_node.specs.declared.refs.PyObjectRef.{PyObjectRef}
 pub use Rattle.py_node.specs.declared.refs.PyStrInterned.{PyStrInterned}
 pub use Rattle.py_node.specs.declared.refs.PyTypeRef.{PyTypeRef}

@@ -1,5 +1,5 @@
 -- How the numbers of the code are read as texts and trees.
-use Rattle.class_world.specs.Below.{ℕ, eqb, List, [], Option, Some, None, Result, Ok, Err, map, slice_get, string_bytes, option_map, option_and_then, PyObjectRef, PyStrInterned, Node as StoredNode, Function, MemberDescriptor, Payload, Form, Raised as Fault, Answer, PyMethod, Task, EvalTask, AttributeTask, PySetterValue, Assign, Delete, DescriptorTask, CallTask, ClassTask, OperatorTask, CompareTask, ProtocolTask, ObjectTask, Text, Tree, TConst, TName, TBind, TTuple, TList, TDict, TFunc, TAttr, TSetAttr, TDelAttr, TCall, TOp, TIf, TSeq, TRaise, TClass, Entries, no_entries, entry, trees_of, keyed_of, literal_of, value_at, Classes, renamed, offset_of, Datum, AnObject, AClass, ANumber, AText, ATuple, AList, ADict, AFunction, AMethod, ANativeFunction, ABuiltinMethod, AMethodDescriptor, AGetSet, AClassMethod, AStaticMethod, AMember, AProperty, ASuper, AnIterator, ASlice, Places, Bindings, Scope, PlainWorld, PlainTask, ToEval, ToAttribute, ToDescriptor, ToCall, ToClass, ToOperator, ToCompare, ToProtocol, ToObject, ToNative, PlainAnswer, AsValue, AsDone, AsNumber, AsTruth, AsMaybe, AsObjects, AsExhausted, AsFunction, AsAttribute, AsStart, Ended, EvalJob, DoEval, CallJob, DoCall, DoBody, DoTypeCall, DoNew, DoInit, DoObject, ClassJob, DoMakeClass, DoType, AttributeJob, DoGetAttr, DoGeneric, DoGenericOpt, DoSetAttr, DoGenericSet, DoTypeGet, DoTypeSet, DoHasAttr, DoSpecial, DoBind, DoLoadMethod, DoInvoke, DescriptorJob, DoDescrGet, DoDescrSet, DoSuperGet, DoSuperInit, DoSuperCheck, OperatorJob, DoAdd, DoBinOp1, DoEnter, DoBinary, DoInplaceOp1, DoInplace, DoConcat, DoInplaceAdd, DoInplaceConcat, DoMul, DoRepeat, DoInplaceMul, DoInplaceRepeat, DoNativeRepeat, DoEnterPower, DoPower, DoInplacePower, DoUnary, DoInt, CompareJob, DoCompare, DoCmp, DoRichBool, DoBoolEq, DoIdEq, DoSeqLt, DoSeqGt, ProtocolJob, DoIsTrue, DoIndex, DoWhole, DoLength, DoHint, DoGetItem, DoSetItem, DoDelItem, DoGetSlice, DoSetSlice, DoDelSlice, DoGetIter, DoNext, DoCollect, DoContains, DoCount, DoFind, DoKeys, DoValues, DoItems, ObjectJob, DoHash, DoRepr, DoStr, DoFormat, DoDir, DoIsInstance, DoInst, DoIsSubclass, DoSub, DoAbsSub, is_text}
+use Rattle.class_world.specs.Below.{ℕ, eqb, List, [], Option, Some, None, Result, Ok, Err, map, slice_get, string_bytes, option_map, option_and_then, ExprRef, PyObjectRef, PyStrInterned, Node as StoredNode, Function, MemberDescriptor, Payload, Form, Raised as Fault, Answer, PyMethod, Task, EvalTask, AttributeTask, PySetterValue, Assign, Delete, DescriptorTask, CallTask, ClassTask, OperatorTask, CompareTask, ProtocolTask, ObjectTask, Text, Tree, TConst, TName, TBind, TTuple, TList, TDict, TFunc, TAttr, TSetAttr, TDelAttr, TCall, TOp, TIf, TSeq, TRaise, TClass, Entries, no_entries, entry, trees_of, keyed_of, literal_of, value_at, Classes, renamed, offset_of, Datum, AnObject, AClass, ANumber, AText, ATuple, AList, ADict, AFunction, AMethod, ANativeFunction, ABuiltinMethod, AMethodDescriptor, AGetSet, AClassMethod, AStaticMethod, AMember, AProperty, ASuper, AnIterator, ASlice, Places, Bindings, Scope, PlainWorld, PlainTask, ToEval, ToAttribute, ToDescriptor, ToCall, ToClass, ToOperator, ToCompare, ToProtocol, ToObject, ToNative, PlainAnswer, AsValue, AsDone, AsNumber, AsTruth, AsMaybe, AsObjects, AsExhausted, AsFunction, AsAttribute, AsStart, Ended, EvalJob, DoEval, CallJob, DoCall, DoBody, DoTypeCall, DoNew, DoInit, DoObject, ClassJob, DoMakeClass, DoType, AttributeJob, DoGetAttr, DoGeneric, DoGenericOpt, DoSetAttr, DoGenericSet, DoTypeGet, DoTypeSet, DoHasAttr, DoSpecial, DoBind, DoLoadMethod, DoInvoke, DescriptorJob, DoDescrGet, DoDescrSet, DoSuperGet, DoSuperInit, DoSuperCheck, OperatorJob, DoAdd, DoBinOp1, DoEnter, DoBinary, DoInplaceOp1, DoInplace, DoConcat, DoInplaceAdd, DoInplaceConcat, DoMul, DoRepeat, DoInplaceMul, DoInplaceRepeat, DoNativeRepeat, DoEnterPower, DoPower, DoInplacePower, DoUnary, DoInt, CompareJob, DoCompare, DoCmp, DoRichBool, DoBoolEq, DoIdEq, DoSeqLt, DoSeqGt, ProtocolJob, DoIsTrue, DoIndex, DoWhole, DoLength, DoHint, DoGetItem, DoSetItem, DoDelItem, DoGetSlice, DoSetSlice, DoDelSlice, DoGetIter, DoNext, DoCollect, DoContains, DoCount, DoFind, DoKeys, DoValues, DoItems, ObjectJob, DoHash, DoRepr, DoStr, DoFormat, DoDir, DoIsInstance, DoInst, DoIsSubclass, DoSub, DoAbsSub, is_text}
 use Rattle.std.specs.Prelude.{◌≡◌, ◌∷◌}
 use Rattle.py_node.specs.declared.payload.Payload.TheVariants as payload
 use Rattle.py_node.specs.declared.payload.Form.TheVariants as form
@@ -30,29 +30,29 @@ entry_list [] = no_entries
 entry_list (e ∷ es) = entry e.0 e.1 (entry_list es)
 
 -- names with the numbers of expressions, as entries
-abbrev pub stored_entries : (ℕ → Text) → (ℕ → Tree) → List (PyStrInterned × ℕ) → Entries
-stored_entries text tree es = entry_list (map (λ e. (text e.0.0, tree e.1)) es)
+abbrev pub stored_entries : (ℕ → Text) → (ℕ → Tree) → List (PyStrInterned × ExprRef) → Entries
+stored_entries text tree es = entry_list (map (λ e. (text e.0.0, tree e.1.0)) es)
 
 -- an expression of the store, as a tree
 abbrev pub form_tree : (ℕ → Text) → (ℕ → Tree) → Form → Tree
 form_tree text tree (form.Const k) = TConst (literal_of k)
 form_tree text tree (form.Name x) = TName (text x.0)
-form_tree text tree (form.Bind x e) = TBind (text x.0) (tree e)
-form_tree text tree (form.Tuple es) = TTuple (trees_of (map tree es.items))
-form_tree text tree (form.List es) = TList (trees_of (map tree es.items))
-form_tree text tree (form.Dict ps) = TDict (keyed_of (map (λ p. (tree p.0, tree p.1)) ps.items))
-form_tree text tree (form.Func f) = TFunc (text f.value.name.0) (map (λ p. text p.0) f.value.params.items) f.value.rest (tree f.value.body)
-form_tree text tree (form.Attr o x) = TAttr (tree o) (text x.0)
-form_tree text tree (form.SetAttr o x e) = TSetAttr (tree o) (text x.0) (tree e)
-form_tree text tree (form.DelAttr o x) = TDelAttr (tree o) (text x.0)
+form_tree text tree (form.Bind x e) = TBind (text x.0) (tree e.0)
+form_tree text tree (form.Tuple es) = TTuple (trees_of (map (λ e. tree e.0) es.items))
+form_tree text tree (form.List es) = TList (trees_of (map (λ e. tree e.0) es.items))
+form_tree text tree (form.Dict ps) = TDict (keyed_of (map (λ p. (tree p.0.0, tree p.1.0)) ps.items))
+form_tree text tree (form.Func f) = TFunc (text f.value.name.0) (map (λ p. text p.0) f.value.params.items) f.value.rest (tree f.value.body.0)
+form_tree text tree (form.Attr o x) = TAttr (tree o.0) (text x.0)
+form_tree text tree (form.SetAttr o x e) = TSetAttr (tree o.0) (text x.0) (tree e.0)
+form_tree text tree (form.DelAttr o x) = TDelAttr (tree o.0) (text x.0)
 form_tree text tree (form.Call c) =
-    TCall (tree c.value.function) (trees_of (map tree c.value.args.items)) (stored_entries text tree c.value.keywords.items)
-form_tree text tree (form.Op word es) = TOp word (trees_of (map tree es.items))
-form_tree text tree (form.If c a b) = TIf (tree c) (tree a) (tree b)
-form_tree text tree (form.Seq es) = TSeq (trees_of (map tree es.items))
+    TCall (tree c.value.function.0) (trees_of (map (λ e. tree e.0) c.value.args.items)) (stored_entries text tree c.value.keywords.items)
+form_tree text tree (form.Op word es) = TOp word (trees_of (map (λ e. tree e.0) es.items))
+form_tree text tree (form.If c a b) = TIf (tree c.0) (tree a.0) (tree b.0)
+form_tree text tree (form.Seq es) = TSeq (trees_of (map (λ e. tree e.0) es.items))
 form_tree text tree (form.Raise kind) = TRaise kind
 form_tree text tree (form.Class k) =
-    TClass (text k.value.name.0) (trees_of (map tree k.value.bases.items)) (stored_entries text tree k.value.keywords.items) (stored_entries text tree k.value.entries.items)
+    TClass (text k.value.name.0) (trees_of (map (λ e. tree e.0) k.value.bases.items)) (stored_entries text tree k.value.keywords.items) (stored_entries text tree k.value.entries.items)
 
 -- the numbers are read as the world's tables have them
 pub record Reads (t : Reading) (w : World) : Type 0 where
@@ -71,7 +71,7 @@ abbrev pub spelled_option : Reading → Option PyStrInterned → Option Text
 spelled_option t o = option_map (spelled t) o
 
 abbrev pub function_datum : Reading → Function → Datum
-function_datum t f = AFunction (spelled t f.name) (map (spelled t) f.params.items) f.rest (t.tree f.body) (option_map (λ c. c.0) f.class)
+function_datum t f = AFunction (spelled t f.name) (map (spelled t) f.params.items) f.rest (t.tree f.body.0) (option_map (λ c. c.0) f.class)
 
 abbrev pub member_datum : Reading → MemberDescriptor → Datum
 member_datum t m = AMember m.class.0 (spelled t m.name) m.kind m.getter m.setter (spelled_option t m.qualname) (spelled_option t m.doc)
@@ -122,7 +122,7 @@ plain t w = record {
 }
 
 abbrev pub eval_job : Reading → EvalTask → EvalJob
-eval_job t (eval.Eval e) = DoEval (t.tree e)
+eval_job t (eval.Eval e) = DoEval (t.tree e.0)
 
 -- what is set: a value, or nothing where it is taken out
 abbrev pub setter_value : PySetterValue → Option PyObjectRef

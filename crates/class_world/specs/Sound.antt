@@ -1,5 +1,5 @@
 -- What is said of numbers, and that all that a world says of them is so.
-use Rattle.class_world.specs.Below.{bit_and, ℕ, Bool, true, false, List, [], Option, Some, None, is_some, is_none, length, map, slice_get, option_map, option_and_then, string_bytes, All, AllByRecursion, PyObjectRef, PyStrInterned, PyTypeRef, PyDictKey, Function, MemberDescriptor, PyProperty, Node, Payload, Form, value_of, is_same_name, AreNamesDistinct, known_texts, BuiltIn, place_of, flags_of, built_in_count, fixed_node_count, heap_type, method_descriptor, Class, Classes, class_at, is_class, has_flag, has_dict, place_count, is_heap_at, the_dict, the_none_type, none, holds_as, held_by, is_offset, read_offset, set_offset, Key, NumberKey, TextKey, AreKeys, Keeps, IsLogged}
+use Rattle.class_world.specs.Below.{bit_and, ℕ, Bool, true, false, List, [], Option, Some, None, is_some, is_none, length, map, slice_get, option_map, option_and_then, string_bytes, All, AllByRecursion, ExprRef, PyObjectRef, PyStrInterned, PyTypeRef, PyDictKey, Function, MemberDescriptor, PyProperty, Node, Payload, Form, value_of, is_same_name, AreNamesDistinct, known_texts, BuiltIn, place_of, flags_of, built_in_count, fixed_node_count, heap_type, method_descriptor, Class, Classes, class_at, is_class, has_flag, has_dict, place_count, is_heap_at, the_dict, the_none_type, none, holds_as, held_by, is_offset, read_offset, set_offset, Key, NumberKey, TextKey, AreKeys, Keeps, IsLogged}
 use Rattle.std.specs.Prelude.{◌≡◌, ◌<◌, ◌≤◌, ◌&&◌, ◌==◌, ◌∷◌, ◌++◌}
 use Rattle.py_node.specs.declared.dict.PyDictKey.TheVariants as dict_key
 use Rattle.py_node.specs.declared.payload.Payload.TheVariants as payload
@@ -14,8 +14,8 @@ use Rattle.class_world.specs.Tables.{AreBelow}
 pub data Claim : Type 0 where
   IsNode : PyObjectRef → Claim
   AreNodes : List PyObjectRef → Claim
-  IsExpression : ℕ → Claim
-  AreExpressions : List ℕ → Claim
+  IsExpression : ExprRef → Claim
+  AreExpressions : List ExprRef → Claim
   IsName : PyStrInterned → Claim
   AreNames : List PyStrInterned → Claim
   IsClass : ℕ → Claim
@@ -32,7 +32,7 @@ pub data Claim : Type 0 where
   -- the objects are the numbers and texts that these keys name, one by one
   KeysRead : List PyDictKey → List PyObjectRef → Claim
   -- the expression is of a form that passes the test
-  HasForm : ℕ → (Form → Bool) → Claim
+  HasForm : ExprRef → (Form → Bool) → Claim
   -- the object is a function with these parameters
   HasParams : PyObjectRef → List PyStrInterned → Claim
   -- the object is a function, and each of its parameters has a value among these
@@ -168,8 +168,8 @@ class_ref_at ns n = option_map (λ x. x.class.0) (slice_get ns n)
 unfoldable pub Holds : Held → Claim → Type 0
 Holds w (IsNode r) = r.0 < length w.nodes
 Holds w (AreNodes rs) = All (λ r. r.0 < length w.nodes) rs
-Holds w (IsExpression e) = e < length w.forms
-Holds w (AreExpressions es) = All (λ e. e < length w.forms) es
+Holds w (IsExpression e) = e.0 < length w.forms
+Holds w (AreExpressions es) = All (λ e. e.0 < length w.forms) es
 Holds w (IsName x) = x.0 < length w.names
 Holds w (AreNames xs) = All (λ x. x.0 < length w.names) xs
 Holds w (IsClass c) = is_class w.classes c ≡ true
@@ -179,7 +179,7 @@ Holds w (Standing c r) = held_class w.nodes r ≡ Some c
 Holds w (CanBeKeys rs) = All (λ r. is_some (held_key w.nodes r) ≡ true) rs
 Holds w (KeysDiffer rs) = AreKeys (held_key w.nodes) rs
 Holds w (KeysRead ks rs) = AreRead w.names w.nodes ks rs
-Holds w (HasForm e test) = (f : Form) × (slice_get w.forms e ≡ Some f) × (test f ≡ true)
+Holds w (HasForm e test) = (f : Form) × (slice_get w.forms e.0 ≡ Some f) × (test f ≡ true)
 Holds w (HasParams r ps) = held_params w.nodes r ≡ Some ps
 Holds w (HasValues r vars) = AreFilled vars (held_params w.nodes r)
 Holds w (AreMembers c ms) = (place_count w.classes c ≡ Some (length ms)) × AllByRecursion (StandsThere (length w.nodes)) ms
@@ -268,7 +268,7 @@ abbrev pub of_node : Node → List Claim
 of_node n = IsClass n.class.0 ∷ IsOf n.class.0 (home_of n.payload) ∷ AreMembers n.class.0 n.members ∷ GetsDict (class_in n.payload) n.class.0 (is_some n.dict) ∷ of_option of_dict_ref n.dict ++ of_payload n.payload
 
 -- names with expressions
-abbrev pub of_stored : List (PyStrInterned × ℕ) → List Claim
+abbrev pub of_stored : List (PyStrInterned × ExprRef) → List Claim
 of_stored es = AreNames (map (λ e. e.0) es) ∷ AreExpressions (map (λ e. e.1) es) ∷ []
 
 abbrev pub of_form : Form → List Claim

@@ -6,7 +6,7 @@ ghost use Rattle.class_world.specs.Reading.{Reading, plain};
 ghost use Rattle.class_world.specs.Sound.{IsNode, IsClass, IsName, IsExpression, Holds};
 
 use crate::world::World;
-use py_node::{PyObjectRef, PyStrInterned, PyTypeRef};
+use py_node::{ExprRef, PyObjectRef, PyStrInterned, PyTypeRef};
 
 #[tactic(auto, unfolding(crate::specs::Reading::plain, crate::specs::Sound::Holds))]
 impl World {
@@ -35,10 +35,10 @@ impl World {
     }
 
     /// Whether a number is that of an expression.
-    pub fn is_expression(&self, number: u64) -> bool
-        ensures is { ltb number (length self.now.forms) ≡ result }
-        ensures expression { IsTrue result → Holds self.now (IsExpression number) }
+    pub fn is_expression(&self, expr: ExprRef) -> bool
+        ensures is { ltb expr.0 (length self.now.forms) ≡ result }
+        ensures expression { IsTrue result → Holds self.now (IsExpression expr) }
     {
-        number < self.forms.len() as u64
+        expr.0 < self.forms.len() as u64
     }
 }

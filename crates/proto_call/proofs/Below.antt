@@ -27,7 +27,7 @@ pub use Rattle.plain_machine.proofs.Pushed.{holder}
 pub use Rattle.plain_machine.specs.Plain.{AClass, AClassMethod, ADict, AGetSet, AText, ATuple, Answered, Asks, Bindings, Chose, Datum, DoBind, DoBody, DoCall, DoEval, DoGetAttr, DoIndex, DoIsTrue, DoMakeClass, DoNew, DoObject, DoType, Ends, Node, PlainTask, PlainWorld, ReadNames, ReadObjects, Said, ToAttribute, ToCall, ToEval, ToProtocol, Told, no_members}
 pub use Rattle.plain_machine.specs.Sound.{IsSound, TextKey, key_at, key_of}
 pub use Rattle.plain_machine.specs.World.{class_at, datum_at, has_dict, is_text, next_node, push_node, ref, text_keys, with_new_class, with_node, with_own_attr}
-pub use Rattle.proto_call.specs.Below.{Answer, ArgCount, Ask, Cause, End, EndsAs, Follows, Form, Function, Getter, Held, KeyType, Kind, Leaves, Ne, New, NullInName, ObjectNative, OutOfMemory, PyObjectRef, PyStrInterned, Raised, Row, SetNameCalled, Setter, Step, TooLong, TypeArgs, TypeNative, TypeType, Word, World, ask, class_number, end, entries_from, entry, evaluate, fault, filled, has_null, heap_class, is_not_implemented, known_text, most_items, natives_of, none, noting, numbers, of_pairs, on_truth, on_value, option_or, pass, raised, refused_layout, refused_order, slot_members, special_at, start, the_class_method, the_dict, the_function, the_getset, the_object, the_str, the_tuple, truth, two_of, type_object, value, with_definer}
+pub use Rattle.proto_call.specs.Below.{Answer, ArgCount, Ask, Cause, End, EndsAs, ExprRef, Follows, Form, Function, Getter, Held, KeyType, Kind, Leaves, Ne, New, NullInName, ObjectNative, OutOfMemory, PyObjectRef, PyStrInterned, Raised, Row, SetNameCalled, Setter, Step, TooLong, TypeArgs, TypeNative, TypeType, Word, World, ask, class_number, end, entries_from, entry, evaluate, fault, filled, has_null, heap_class, is_not_implemented, known_text, most_items, natives_of, none, noting, numbers, of_pairs, on_truth, on_value, option_or, pass, raised, refused_layout, refused_order, slot_members, special_at, start, the_class_method, the_dict, the_function, the_getset, the_object, the_str, the_tuple, truth, two_of, type_object, value, with_definer}
 pub use Rattle.proto_call.specs.Bodies.{Enters, LastFilled, RunsAs, by_keywords_of, by_place_of, datum_of, last_in, opened_of}
 pub use Rattle.proto_call.specs.ClassMake.Rows.{Bound, Makes, Types, class_stands, left, of_class_kept, of_class_node, class_group}
 pub use Rattle.proto_call.specs.ClassMake.Say.{Entries, Space, a_member, attrs_in, bind_hook, bind_hooks, by_bases, by_classes, by_one, by_parts, by_slots, by_winner, call_hooks, called_with, classes_of, defined, derived, dict_of, from_three, functions_of, has_name, init_subclass, namespace, namespace_from, new_class, on_bases, on_layout, or_zero, own_values, places_from, refusal, tell, text_of, texts_of, the_member, there, three_of, tuple_of, type_by, type_call, type_new, type_new_of, unless_raised, values_of, winner, with_class, with_functions, with_member, with_members, with_namespace, with_own_members, would_have_dict}

@@ -15,7 +15,7 @@ pub filled-opens : (t : Reading) (u : PlainWorld) (g : Function) (f : PyObjectRe
 filled-opens t u g f before vars kw xs names more all =
     let x = spelled t g.name in
     let ps = map (spelled t) g.params.items in
-    let keyed = when_filled u f x ps g.rest (t.tree g.body) in
+    let keyed = when_filled u f x ps g.rest (t.tree g.body.0) in
     let here = ap (λ ys. with_keywords ys (bindings t before) (bindings t kw)) (sym names) ∙ sym more in
     let test = ap (all_filled (bindings t vars)) (sym names) ∙ all in
     sym (ap keyed here ∙ ap (λ b. cond b (opened_of g f vars t u) (Ends u (fault ArgCount))) test)
@@ -25,26 +25,26 @@ pub rest-fills : (t : Reading) (u v : PlainWorld) (g : Function) (f : PyObjectRe
 rest-fills t u v g f args vars kw rest fits made filling =
     let x = spelled t g.name in
     let ps = map (spelled t) g.params.items in
-    let whole = by_keywords (with_node u the_tuple (ATuple (left_over (but_last ps) args))) f x ps true (t.tree g.body) (with_value is_text (filled [] (but_last ps) args) (last_of ps) (next_node u the_tuple)) (bindings t kw) in
-    let keyed : by_keywords_of g f vars kw t v ≡ whole = λ i. by_keywords (made i) f x ps (rest i) (t.tree g.body) (filling i) (bindings t kw) in
-    keyed ∙ sym (ap (λ b. cond b whole (Ends u (fault TooLong))) fits) ∙ ap (λ b. by_place u f x ps b (t.tree g.body) args (bindings t kw)) (sym rest)
+    let whole = by_keywords (with_node u the_tuple (ATuple (left_over (but_last ps) args))) f x ps true (t.tree g.body.0) (with_value is_text (filled [] (but_last ps) args) (last_of ps) (next_node u the_tuple)) (bindings t kw) in
+    let keyed : by_keywords_of g f vars kw t v ≡ whole = λ i. by_keywords (made i) f x ps (rest i) (t.tree g.body.0) (filling i) (bindings t kw) in
+    keyed ∙ sym (ap (λ b. cond b whole (Ends u (fault TooLong))) fits) ∙ ap (λ b. by_place u f x ps b (t.tree g.body.0) args (bindings t kw)) (sym rest)
 
 -- or there are too many
 pub rest-refused : (t : Reading) (u : PlainWorld) (g : Function) (f : PyObjectRef) (args : List PyObjectRef) (kw : List (PyStrInterned × PyObjectRef)) → g.rest ≡ true → rest_fits (map (spelled t) g.params.items) args ≡ false → by_place_of g f args kw t u ≡ Ends u (fault TooLong)
 rest-refused t u g f args kw rest fits =
     let x = spelled t g.name in
     let ps = map (spelled t) g.params.items in
-    ap (λ b. by_place u f x ps b (t.tree g.body) args (bindings t kw)) rest
-    ∙ ap (λ b. cond b (by_keywords (with_node u the_tuple (ATuple (left_over (but_last ps) args))) f x ps true (t.tree g.body) (with_value is_text (filled [] (but_last ps) args) (last_of ps) (next_node u the_tuple)) (bindings t kw)) (Ends u (fault TooLong))) fits
+    ap (λ b. by_place u f x ps b (t.tree g.body.0) args (bindings t kw)) rest
+    ∙ ap (λ b. cond b (by_keywords (with_node u the_tuple (ATuple (left_over (but_last ps) args))) f x ps true (t.tree g.body.0) (with_value is_text (filled [] (but_last ps) args) (last_of ps) (next_node u the_tuple)) (bindings t kw)) (Ends u (fault TooLong))) fits
 
 -- each parameter takes one argument, and none is left over
 pub all-fill : (t : Reading) (u : PlainWorld) (g : Function) (f : PyObjectRef) (args : List PyObjectRef) (vars kw : List (PyStrInterned × PyObjectRef)) → g.rest ≡ false → is_empty (left_over (map (spelled t) g.params.items) args) ≡ true → bindings t vars ≡ filled [] (map (spelled t) g.params.items) args → by_keywords_of g f vars kw t u ≡ by_place_of g f args kw t u
 all-fill t u g f args vars kw rest none filling =
     let x = spelled t g.name in
     let ps = map (spelled t) g.params.items in
-    let keyed : by_keywords_of g f vars kw t u ≡ by_keywords u f x ps false (t.tree g.body) (filled [] ps args) (bindings t kw) = λ i. by_keywords u f x ps (rest i) (t.tree g.body) (filling i) (bindings t kw) in
-    let test = ap (λ b. cond b (by_keywords u f x ps false (t.tree g.body) (filled [] ps args) (bindings t kw)) (Ends u (fault ArgCount))) none in
-    keyed ∙ sym test ∙ ap (λ b. by_place u f x ps b (t.tree g.body) args (bindings t kw)) (sym rest)
+    let keyed : by_keywords_of g f vars kw t u ≡ by_keywords u f x ps false (t.tree g.body.0) (filled [] ps args) (bindings t kw) = λ i. by_keywords u f x ps (rest i) (t.tree g.body.0) (filling i) (bindings t kw) in
+    let test = ap (λ b. cond b (by_keywords u f x ps false (t.tree g.body.0) (filled [] ps args) (bindings t kw)) (Ends u (fault ArgCount))) none in
+    keyed ∙ sym test ∙ ap (λ b. by_place u f x ps b (t.tree g.body.0) args (bindings t kw)) (sym rest)
 
 pub empty-is : {A : Type 0} (xs : List A) → is_empty xs ≡ (length xs == 0)
 empty-is [] = refl

@@ -55,6 +55,7 @@ pub use Rattle.py_node.specs.declared.raised.Cause.{Cause}
 pub use Rattle.py_node.specs.declared.raised.Cause.TheVariants.{AbstractMethods, ArgCount, BasesNotTypes, Body, CannotCreate, FormatSpec, IndexRange, InitNotNone, IterEnd, KeyType, MetaclassConflict, MroEntries, NamespaceKey, NoSpecial, NotCallable, NullInName, QualnameType, RepeatedKeyword, SelfType, SetNameCalled, SlotsType, TooLong, TypeArgTypes, TypeArgs, Unbound, UnexpectedKeyword, UnsafeNew}
 pub use Rattle.py_node.specs.declared.raised.Kind.{Kind}
 pub use Rattle.py_node.specs.declared.raised.Raised.{Raised}
+pub use Rattle.py_node.specs.declared.refs.ExprRef.{ExprRef}
 pub use Rattle.py_node.specs.declared.refs.PyObjectRef.{PyObjectRef}
 pub use Rattle.py_node.specs.declared.refs.PyStrInterned.{PyStrInterned}
 pub use Rattle.py_node.specs.declared.task.Answer.{Answer}

@@ -31,15 +31,15 @@ RestFilled g vars = IsTrue g.rest → LastFilled g.params.items vars
 -- the words of the row, for a function of the code
 
 abbrev pub opened_of : Function → PyObjectRef → List (PyStrInterned × PyObjectRef) → Reading → PlainWorld → Said
-opened_of g f vars t w = opened w f (spelled t g.name) (map (spelled t) g.params.items) (t.tree g.body) (bindings t vars)
+opened_of g f vars t w = opened w f (spelled t g.name) (map (spelled t) g.params.items) (t.tree g.body.0) (bindings t vars)
 
 abbrev pub by_keywords_of : Function → PyObjectRef → List (PyStrInterned × PyObjectRef) → List (PyStrInterned × PyObjectRef) → Reading → PlainWorld → Said
 by_keywords_of g f vars kw t w =
-    by_keywords w f (spelled t g.name) (map (spelled t) g.params.items) g.rest (t.tree g.body) (bindings t vars) (bindings t kw)
+    by_keywords w f (spelled t g.name) (map (spelled t) g.params.items) g.rest (t.tree g.body.0) (bindings t vars) (bindings t kw)
 
 abbrev pub by_place_of : Function → PyObjectRef → List PyObjectRef → List (PyStrInterned × PyObjectRef) → Reading → PlainWorld → Said
 by_place_of g f args kw t w =
-    by_place w f (spelled t g.name) (map (spelled t) g.params.items) g.rest (t.tree g.body) args (bindings t kw)
+    by_place w f (spelled t g.name) (map (spelled t) g.params.items) g.rest (t.tree g.body.0) args (bindings t kw)
 
 -- a body runs as that of this function, if of any
 abbrev pub RunsAs : Option Datum → Option Datum → Type 0

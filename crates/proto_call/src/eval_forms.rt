@@ -33,8 +33,8 @@ use names::name_step;
 use operand::operand;
 use outcome::{Outcome, made};
 use py_node::{
-    Answer, BuiltIn, Cause, Constant, EvalTask, Form, Function, Kind, OutOfMemory, Payload,
-    PyObjectRef, PyStrInterned, Raised, Step, Task, Word,
+    Answer, BuiltIn, Cause, Constant, EvalTask, ExprRef, Form, Function, Kind, OutOfMemory,
+    Payload, PyObjectRef, PyStrInterned, Raised, Step, Task, Word,
 };
 use std::alloc::Global;
 use words::op_step;
@@ -53,17 +53,17 @@ pub enum EvalKept {
     /// The same for the second place: the sequence, and what was answered for the first.
     Stop(Part, PyObjectRef, PyObjectRef),
     /// The branches of a condition.
-    Branch(u64, u64),
+    Branch(ExprRef, ExprRef),
     /// The expression, and the values of its operands so far.
-    Operands(u64, Vec<PyObjectRef>),
+    Operands(ExprRef, Vec<PyObjectRef>),
     /// The call whose method is being loaded.
-    Load(u64),
+    Load(ExprRef),
     /// The call, what it calls, and the values of its arguments, and then of its keywords, so far.
-    Arguments(u64, Called, Vec<PyObjectRef>),
+    Arguments(ExprRef, Called, Vec<PyObjectRef>),
     /// The dict whose next key is evaluated, and its pairs so far.
-    Key(u64, Vec<(PyObjectRef, PyObjectRef)>),
+    Key(ExprRef, Vec<(PyObjectRef, PyObjectRef)>),
     /// The dict, its pairs so far, and the key whose value is evaluated.
-    Value(u64, Vec<(PyObjectRef, PyObjectRef)>, PyObjectRef),
+    Value(ExprRef, Vec<(PyObjectRef, PyObjectRef)>, PyObjectRef),
 }
 
 /// Begins a task.
@@ -139,7 +139,7 @@ pub(crate) fn object_of(
 // The next operand is evaluated, after one that has a value.
 fn one_more(
     world: &mut World,
-    e: u64,
+    e: ExprRef,
     values: Vec<PyObjectRef>,
     value: PyObjectRef,
 ) -> Result<Step<EvalKept>, OutOfMemory>
@@ -168,12 +168,12 @@ pub(crate) fn with_value(
 // The next operand is evaluated. Where all have values, the expression has its own step.
 fn next_operand(
     world: &mut World,
-    e: u64,
+    e: ExprRef,
     values: Vec<PyObjectRef>,
 ) -> Result<Step<EvalKept>, OutOfMemory>
     requires expression { Holds world.old (IsExpression e) }
     requires values { Holds world.old (AreNodes values.items) }
-    requires fits { length values.items ≤ length (operands_at (slice_get world.old.forms e)) }
+    requires fits { length values.items ≤ length (operands_at (slice_get world.old.forms e.0)) }
     ensures goes { IfOk result (λ step. Continues e values.items world.old world.new step) }
     ensures safe { Leaves of_eval_kept world.old world.new result }
 {
@@ -197,15 +197,15 @@ pub enum Own {
     List,
     Dict,
     /// The function's name, its parameters, whether the last one takes the rest, and its body.
-    Func(PyStrInterned, Vec<PyStrInterned>, bool, u64),
+    Func(PyStrInterned, Vec<PyStrInterned>, bool, ExprRef),
     Attr(PyStrInterned),
     SetAttr(PyStrInterned),
     DelAttr(PyStrInterned),
     /// The expression of what is called.
-    Call(u64),
+    Call(ExprRef),
     Op(Word),
     /// The expressions of the branches.
-    If(u64, u64),
+    If(ExprRef, ExprRef),
     Seq,
     Raise(Kind),
     /// The class's name, how many bases it has, the names of its keywords, and those of its entries.
@@ -215,7 +215,7 @@ pub enum Own {
 // The step of an expression whose operands have their values.
 fn own_step(
     world: &mut World,
-    e: u64,
+    e: ExprRef,
     values: Vec<PyObjectRef>,
 ) -> Result<Step<EvalKept>, OutOfMemory>
     requires expression { Holds world.old (IsExpression e) }
@@ -302,7 +302,7 @@ fn own_of(alloc: Global, form: &Form) -> Result<Own, OutOfMemory>
 // The names of entries.
 pub(crate) fn names_of(
     alloc: Global,
-    entries: &[(PyStrInterned, u64)],
+    entries: &[(PyStrInterned, ExprRef)],
 ) -> Result<Vec<PyStrInterned>, OutOfMemory>
     ensures { IfOk result (λ v. v.items ≡ map (λ e. e.0) entries.now) }
 {
@@ -412,12 +412,12 @@ fn func_step(
     name: PyStrInterned,
     params: Vec<PyStrInterned>,
     rest: bool,
-    body: u64,
+    body: ExprRef,
 ) -> Result<Step<EvalKept>, OutOfMemory>
     requires parts { AllHold world.old (IsName name ∷ AreNames params.items ∷ IsExpression body ∷ []) }
     ensures goes { IfOk result (λ step.
         EndsRow (λ t w.
-        func_say w (t.text name.0) (map (λ p. t.text p.0) params.items) rest (t.tree body)) world.old world.new step) }
+        func_say w (t.text name.0) (map (λ p. t.text p.0) params.items) rest (t.tree body.0)) world.old world.new step) }
     ensures safe { Leaves of_eval_kept world.old world.new result }
 {
     let class = world.built_in(BuiltIn::Function);

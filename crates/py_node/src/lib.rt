@@ -57,7 +57,7 @@ pub use payload::{
 };
 pub use protocol::{CompareTask, ObjectTask, ProtocolTask};
 pub use raised::{Cause, Kind, Raised};
-pub use refs::{PyObjectRef, PyStrInterned, PyTypeRef};
+pub use refs::{ExprRef, PyObjectRef, PyStrInterned, PyTypeRef};
 pub use reply::{BodyCall, Reply, ReplyAnswer};
 pub use slots::{Filling, Sort};
 pub use stop::{Stop, caught};

@@ -9,7 +9,7 @@ use crate::entry::NativeEntry;
 use crate::expr::{CallParts, ClassParts, Constant, FuncParts, Word};
 use crate::members::PyMembers;
 use crate::raised::Kind;
-use crate::refs::{PyObjectRef, PyStrInterned, PyTypeRef};
+use crate::refs::{ExprRef, PyObjectRef, PyStrInterned, PyTypeRef};
 
 /// What a node holds beside its class and its dict. What is larger than the others stands in a box, so that nodes are small.
 #[derive(Drop)]
@@ -52,8 +52,8 @@ pub struct Function {
     pub params: Vec<PyStrInterned>,
     /// Whether the last parameter takes the rest of the arguments.
     pub rest: bool,
-    /// The number of its body in the world's store of expressions.
-    pub body: u64,
+    /// Its body.
+    pub body: ExprRef,
     /// The class that defines it, if any.
     pub class: Option<PyTypeRef>,
 }
@@ -196,25 +196,25 @@ pub struct Node {
 
 const _: () = prove!(size_of::<Node>() == 80);
 
-/// An expression in the world's store, which names its parts by their numbers there. What is large stands in a box.
+/// An expression in the world's store, which names its parts by their numbers. What is large stands in a box.
 #[derive(Drop)]
 pub enum Form {
     Const(Constant),
     Name(PyStrInterned),
-    Bind(PyStrInterned, u64),
-    Tuple(Vec<u64>),
-    List(Vec<u64>),
-    Dict(Vec<(u64, u64)>),
-    Func(Box<FuncParts<PyStrInterned, u64>>),
-    Attr(u64, PyStrInterned),
-    SetAttr(u64, PyStrInterned, u64),
-    DelAttr(u64, PyStrInterned),
-    Call(Box<CallParts<PyStrInterned, u64>>),
-    Op(Word, Vec<u64>),
-    If(u64, u64, u64),
-    Seq(Vec<u64>),
+    Bind(PyStrInterned, ExprRef),
+    Tuple(Vec<ExprRef>),
+    List(Vec<ExprRef>),
+    Dict(Vec<(ExprRef, ExprRef)>),
+    Func(Box<FuncParts<PyStrInterned, ExprRef>>),
+    Attr(ExprRef, PyStrInterned),
+    SetAttr(ExprRef, PyStrInterned, ExprRef),
+    DelAttr(ExprRef, PyStrInterned),
+    Call(Box<CallParts<PyStrInterned, ExprRef>>),
+    Op(Word, Vec<ExprRef>),
+    If(ExprRef, ExprRef, ExprRef),
+    Seq(Vec<ExprRef>),
     Raise(Kind),
-    Class(Box<ClassParts<PyStrInterned, u64>>),
+    Class(Box<ClassParts<PyStrInterned, ExprRef>>),
 }
 
 const _: () = prove!(size_of::<Form>() == 40);

@@ -7,7 +7,7 @@ ghost use Rattle.py_node.specs.Faults.{raised};
 use crate::entry::{IntNative, NativeEntry, ObjectNative, SlotEntry, TypeNative};
 use crate::protocol::{CompareTask, ObjectTask, ProtocolTask};
 use crate::raised::{Cause, Raised};
-use crate::refs::{PyObjectRef, PyStrInterned, PyTypeRef};
+use crate::refs::{ExprRef, PyObjectRef, PyStrInterned, PyTypeRef};
 
 /// A binary operator of numbers.
 #[derive(Clone, Copy, PartialEq, Eq)]
@@ -127,10 +127,10 @@ pub enum Task {
     Native(NativeEntry, Args, Keywords),
 }
 
-/// A task on expressions, which are named by their number in the world's store.
+/// A task on expressions.
 #[derive(Drop)]
 pub enum EvalTask {
-    Eval(u64),
+    Eval(ExprRef),
 }
 
 /// A task on attributes and special methods.

@@ -18,6 +18,7 @@ pub use Rattle.proto_object.specs.ProtoIter.Rows.{iter_group}
 unfoldable pub use Rattle.proto_ops.specs.NativeRepeats.Say.{repeat_job_say}
 pub use Rattle.py_node.specs.Replies.{PlainReplyAnswer, Started, reply_of}
 pub use Rattle.py_node.specs.declared.raised.Cause.TheVariants.{DepthLimit}
+pub use Rattle.py_node.specs.declared.refs.ExprRef.{ExprRef}
 pub use Rattle.std.proofs.Common.{Bool, List, Ok, Result, [], ap, arith, cond, drop, false, length, length-append, map, nat_lt, refl, subst, suc, sym, true, zero, zero-add, ℕ, ◌∙◌}
 pub use Rattle.std.proofs.lemmas.Bool.{le-ltb, lt-ltb, ltb-false, ltb-true}
 pub use Rattle.std.proofs.lemmas.List.{append_assoc}

@@ -7,7 +7,7 @@ ghost use Rattle.vm_eval.specs.State.{MarkedBy};
 
 use crate::machine::VirtualMachine;
 use class_table::ClassTable;
-use py_node::{Expr, OutOfMemory, PyStrInterned};
+use py_node::{Expr, ExprRef, OutOfMemory, PyStrInterned};
 use world_text::expressions::add_expr;
 
 impl VirtualMachine {
@@ -49,15 +49,15 @@ impl VirtualMachine {
     }
 
     /// Puts an expression into the machine's store, and answers its number there.
-    pub fn add_expr(&mut self, expr: &Expr) -> Result<u64, OutOfMemory>
-        ensures added { IfOk result (λ n. (t : Reading) → Reads t self.new.world → t.tree n ≡ tree_of expr.now) }
+    pub fn add_expr(&mut self, expr: &Expr) -> Result<ExprRef, OutOfMemory>
+        ensures added { IfOk result (λ e. (t : Reading) → Reads t self.new.world → t.tree e.0 ≡ tree_of expr.now) }
         ensures same { (t : Reading) → plain t self.new.world ≡ plain t self.old.world }
         ensures reads { (t : Reading) → Reads t self.new.world → Reads t self.old.world }
         ensures grows { Grows self.old.world self.new.world }
-        ensures holds { IfOk result (λ n. Holds self.new.world (IsExpression n)) }
+        ensures holds { IfOk result (λ e. Holds self.new.world (IsExpression e)) }
         ensures mark { MarkedBy self.old self.new result }
     {
-        let number = add_expr(&mut self.world, expr);
-        self.marked(number)
+        let stored = add_expr(&mut self.world, expr);
+        self.marked(stored)
     }
 }

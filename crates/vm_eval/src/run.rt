@@ -56,8 +56,8 @@ fn reply(
     ensures quiet { OnOk result (world.new.calls ≡ []) }
     ensures room { vec_capacity stack.old ≤ vec_capacity stack.new }
 {
-    let number = add_expr(world, &command.expr)?;
-    let end = drive(world, stack, Task::Eval(EvalTask::Eval(number)), units)?;
+    let expr = add_expr(world, &command.expr)?;
+    let end = drive(world, stack, Task::Eval(EvalTask::Eval(expr)), units)?;
     let answer = answering(world, end)?;
     let calls = world.take_calls();
     Ok(Reply { answer, calls })

@@ -1,5 +1,5 @@
 -- A store that has more has what it had, and lists of its parts grow by one.
-use Rattle.world_text.proofs.Below.{ℕ, List, [], length, get_or, map, take, take_all, String, string_bytes, Result, Ok, Err, IfOk, refl, ap, ◌∙◌, subst, Global, Expr, PyStrInterned, Form, Text, Tree, tree_of, part_of, pair_of, texts_of, Held, Reading, Reads, form_tree, IsName, AreNames, IsExpression, AreExpressions, Holds, grows-itself, grows-on, map-next, names-push, no-names, Adds, HasName, HasNames, HasTree, HasTrees, HasPairs, HasEntries, HasForm}
+use Rattle.world_text.proofs.Below.{ℕ, List, [], length, get_or, map, take, take_all, String, string_bytes, Result, Ok, Err, IfOk, refl, ap, ◌∙◌, subst, Global, Expr, ExprRef, PyStrInterned, Form, Text, Tree, tree_of, part_of, pair_of, texts_of, Held, Reading, Reads, form_tree, IsName, AreNames, IsExpression, AreExpressions, Holds, grows-itself, grows-on, map-next, names-push, no-names, Adds, HasName, HasNames, HasTree, HasTrees, HasPairs, HasEntries, HasForm}
 use Rattle.std.proofs.Common.{◌≡◌, ◌+◌, ◌<◌, ◌≤◌, ◌∷◌, ◌++◌}
 use Rattle.world_text.proofs.Parts.{no-expressions, expressions-push, keys-push, values-push, entry-names-push, entry-expressions-push}
 
@@ -16,20 +16,20 @@ module _ {a b : Held} (g : Adds a b) where
   pub names-stay : {xs : List PyStrInterned} {ss : List Text} → HasNames a xs ss → HasNames b xs ss
   names-stay {xs} h = record { there = g.grows.still (AreNames xs) h.there; read = λ t r. h.read t (g.reads t r) }
 
-  pub tree-stays : {n : ℕ} {e : Tree} → HasTree a n e → HasTree b n e
+  pub tree-stays : {n : ExprRef} {e : Tree} → HasTree a n e → HasTree b n e
   tree-stays {n} h = record { there = g.grows.still (IsExpression n) h.there; read = λ t r. h.read t (g.reads t r) }
 
-  pub trees-stay : {ns : List ℕ} {es : List Tree} → HasTrees a ns es → HasTrees b ns es
+  pub trees-stay : {ns : List ExprRef} {es : List Tree} → HasTrees a ns es → HasTrees b ns es
   trees-stay {ns} h = record { there = g.grows.still (AreExpressions ns) h.there; read = λ t r. h.read t (g.reads t r) }
 
-  pub pairs-stay : {ps : List (ℕ × ℕ)} {es : List (Tree × Tree)} → HasPairs a ps es → HasPairs b ps es
+  pub pairs-stay : {ps : List (ExprRef × ExprRef)} {es : List (Tree × Tree)} → HasPairs a ps es → HasPairs b ps es
   pairs-stay {ps} h = record {
     keys = g.grows.still (AreExpressions (map (λ p. p.0) ps)) h.keys;
     values = g.grows.still (AreExpressions (map (λ p. p.1) ps)) h.values;
     read = λ t r. h.read t (g.reads t r);
   }
 
-  pub entries-stay : {xs : List (PyStrInterned × ℕ)} {es : List (Text × Tree)} → HasEntries a xs es → HasEntries b xs es
+  pub entries-stay : {xs : List (PyStrInterned × ExprRef)} {es : List (Text × Tree)} → HasEntries a xs es → HasEntries b xs es
   entries-stay {xs} h = record {
     names = g.grows.still (AreNames (map (λ e. e.0) xs)) h.names;
     values = g.grows.still (AreExpressions (map (λ e. e.1) xs)) h.values;
@@ -37,12 +37,12 @@ module _ {a b : Held} (g : Adds a b) where
   }
 
 -- the same expression of the code
-pub tree-as : {w : Held} {n : ℕ} {e d : Expr} → HasTree w n (tree_of e) → e ≡ d → HasTree w n (tree_of d)
+pub tree-as : {w : Held} {n : ExprRef} {e d : Expr} → HasTree w n (tree_of e) → e ≡ d → HasTree w n (tree_of d)
 tree-as {w} {n} h e = subst (λ d. HasTree w n (tree_of d)) e h
 
 -- what is added to the store stands for the tree that it would stand for
-pub stored : {E : Type 0} (old new : Held) (f : Form) (e : Tree) (o : Result ℕ E)
-    → IfOk o (λ n. (t : Reading) → Reads t new → t.tree n ≡ form_tree t.text t.tree f) → IfOk o (λ n. Holds new (IsExpression n))
+pub stored : {E : Type 0} (old new : Held) (f : Form) (e : Tree) (o : Result ExprRef E)
+    → IfOk o (λ n. (t : Reading) → Reads t new → t.tree n.0 ≡ form_tree t.text t.tree f) → IfOk o (λ n. Holds new (IsExpression n))
     → ((t : Reading) → Reads t new → Reads t old) → HasForm old f e → IfOk o (λ n. HasTree new n e)
 stored old new f e (Ok n) a h g k = record { there = h; read = λ t r. a t r ∙ k.read t (g t r) }
 stored old new f e (Err x) a h g k = tt
@@ -71,27 +71,27 @@ pub names-next : {w : Held} {xs : List PyStrInterned} {x : PyStrInterned} (ss : 
 names-next {w} {xs} {x} ss i s l at h k =
     record { there = names-push w xs x h.there k.there; read = λ t r. map-next (λ x. t.text x.0) (λ s. string_bytes s) xs x ss i s l at (h.read t r) (k.read t r) }
 
-pub trees-next : {w : Held} {ns : List ℕ} {n : ℕ} (es : List Expr) (i : ℕ) (e : Expr)
+pub trees-next : {w : Held} {ns : List ExprRef} {n : ExprRef} (es : List Expr) (i : ℕ) (e : Expr)
     → i < length es → e ≡ get_or es i e → HasTrees w ns (map tree_of (take i es)) → HasTree w n (tree_of e) → HasTrees w (ns ++ n ∷ []) (map tree_of (take (i + 1) es))
 trees-next {w} {ns} {n} es i e l at h k =
-    record { there = expressions-push w ns n h.there k.there; read = λ t r. map-next t.tree tree_of ns n es i e l at (h.read t r) (k.read t r) }
+    record { there = expressions-push w ns n h.there k.there; read = λ t r. map-next (λ n. t.tree n.0) tree_of ns n es i e l at (h.read t r) (k.read t r) }
 
-pub pairs-next : {w : Held} {ps : List (ℕ × ℕ)} {k v : ℕ} (es : List (Expr × Expr)) (i : ℕ) (e : Expr × Expr)
+pub pairs-next : {w : Held} {ps : List (ExprRef × ExprRef)} {k v : ExprRef} (es : List (Expr × Expr)) (i : ℕ) (e : Expr × Expr)
     → i < length es → e ≡ get_or es i e → HasPairs w ps (map pair_of (take i es)) → HasTree w k (tree_of e.0) → HasTree w v (tree_of e.1)
     → HasPairs w (ps ++ (k, v) ∷ []) (map pair_of (take (i + 1) es))
 pairs-next {w} {ps} {k} {v} es i e l at h m n = record {
   keys = keys-push w ps (k, v) h.keys m.there;
   values = values-push w ps (k, v) h.values n.there;
-  read = λ t r. map-next (λ p. (t.tree p.0, t.tree p.1)) pair_of ps (k, v) es i e l at (h.read t r) (λ j. (m.read t r j, n.read t r j));
+  read = λ t r. map-next (λ p. (t.tree p.0.0, t.tree p.1.0)) pair_of ps (k, v) es i e l at (h.read t r) (λ j. (m.read t r j, n.read t r j));
 }
 
-pub entries-next : {w : Held} {xs : List (PyStrInterned × ℕ)} {x : PyStrInterned} {n : ℕ} (es : List (String Global × Expr)) (i : ℕ) (e : String Global × Expr)
+pub entries-next : {w : Held} {xs : List (PyStrInterned × ExprRef)} {x : PyStrInterned} {n : ExprRef} (es : List (String Global × Expr)) (i : ℕ) (e : String Global × Expr)
     → i < length es → e ≡ get_or es i e → HasEntries w xs (map part_of (take i es)) → HasName w x (string_bytes e.0) → HasTree w n (tree_of e.1)
     → HasEntries w (xs ++ (x, n) ∷ []) (map part_of (take (i + 1) es))
 entries-next {w} {xs} {x} {n} es i e l at h m k = record {
   names = entry-names-push w xs (x, n) h.names m.there;
   values = entry-expressions-push w xs (x, n) h.values k.there;
-  read = λ t r. map-next (λ e. (t.text e.0.0, t.tree e.1)) part_of xs (x, n) es i e l at (h.read t r) (λ j. (m.read t r j, k.read t r j));
+  read = λ t r. map-next (λ e. (t.text e.0.0, t.tree e.1.0)) part_of xs (x, n) es i e l at (h.read t r) (λ j. (m.read t r j, k.read t r j));
 }
 
 -- all were taken

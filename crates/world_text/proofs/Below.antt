@@ -35,6 +35,6 @@ pub use Rattle.std.proofs.lemmas.Option.{get_or_from_slice_get, slice_get_within
 pub use Rattle.std.specs.Global.{Box, Vec}
 pub use Rattle.std.specs.List.{flat_map, join_by}
 pub use Rattle.std.specs.Prelude.{Bool, Option, codes, cond, option_map, slice_get, true}
-pub use Rattle.world_text.specs.Below.{AreExpressions, AreNames, AreNodes, Form, Global, Held, IsExpression, IsName, IsNode, PyStrInterned, all_slots, containers, datum_text, dict_text, dots, end_of_line, entry_text, escaped, item_texts, joined, list_text, numbers, numbers_of, plain_text, rest_text, table_keys, text_within, tuple_text}
+pub use Rattle.world_text.specs.Below.{AreExpressions, AreNames, AreNodes, ExprRef, Form, Global, Held, IsExpression, IsName, IsNode, PyStrInterned, all_slots, containers, datum_text, dict_text, dots, end_of_line, entry_text, escaped, item_texts, joined, list_text, numbers, numbers_of, plain_text, rest_text, table_keys, text_within, tuple_text}
 pub use Rattle.world_text.specs.Inside.{inside, or_dots}
 pub use Rattle.world_text.specs.Store.{Adds, HasEntries, HasForm, HasName, HasNames, HasPairs, HasTree, HasTrees}

@@ -15,6 +15,7 @@ pub use Rattle.py_node.specs.BuiltIns.{place_of}
 pub use Rattle.py_node.specs.Slots.{all_slots}
 pub use Rattle.py_node.specs.Tree.{TConst, Text, Tree, literal_of, pair_of, part_of, texts_of, tree_of}
 pub use Rattle.py_node.specs.declared.payload.Form.{Form}
+pub use Rattle.py_node.specs.declared.refs.ExprRef.{ExprRef}
 pub use Rattle.py_node.specs.declared.refs.PyStrInterned.{PyStrInterned}
 pub use Rattle.std.specs.Global.{Vec}
 pub use Rattle.std.specs.List.{flat_map}

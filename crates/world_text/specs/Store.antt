@@ -1,5 +1,5 @@
 -- What is in the store of a world, and a store that has more.
-use Rattle.world_text.specs.Below.{ℕ, List, map, PyStrInterned, Form, Text, Tree, Held, Reading, Reads, form_tree, plain, IsName, AreNames, IsExpression, AreExpressions, Holds, AllHold, Grows, of_form}
+use Rattle.world_text.specs.Below.{List, map, ExprRef, PyStrInterned, Form, Text, Tree, Held, Reading, Reads, form_tree, plain, IsName, AreNames, IsExpression, AreExpressions, Holds, AllHold, Grows, of_form}
 use Rattle.std.specs.Prelude.{◌≡◌}
 
 -- a world with more names and expressions: it says the same, and what reads it reads the old one
@@ -18,25 +18,25 @@ pub record HasNames (w : Held) (xs : List PyStrInterned) (texts : List Text) : T
   pub read : (t : Reading) → Reads t w → map (λ x. t.text x.0) xs ≡ texts
 
 -- an expression that stands for the tree
-pub record HasTree (w : Held) (n : ℕ) (e : Tree) : Type 0 where
+pub record HasTree (w : Held) (n : ExprRef) (e : Tree) : Type 0 where
   pub there : Holds w (IsExpression n)
-  pub read : (t : Reading) → Reads t w → t.tree n ≡ e
+  pub read : (t : Reading) → Reads t w → t.tree n.0 ≡ e
 
-pub record HasTrees (w : Held) (ns : List ℕ) (es : List Tree) : Type 0 where
+pub record HasTrees (w : Held) (ns : List ExprRef) (es : List Tree) : Type 0 where
   pub there : Holds w (AreExpressions ns)
-  pub read : (t : Reading) → Reads t w → map t.tree ns ≡ es
+  pub read : (t : Reading) → Reads t w → map (λ n. t.tree n.0) ns ≡ es
 
 -- keys with their values
-pub record HasPairs (w : Held) (ps : List (ℕ × ℕ)) (es : List (Tree × Tree)) : Type 0 where
+pub record HasPairs (w : Held) (ps : List (ExprRef × ExprRef)) (es : List (Tree × Tree)) : Type 0 where
   pub keys : Holds w (AreExpressions (map (λ p. p.0) ps))
   pub values : Holds w (AreExpressions (map (λ p. p.1) ps))
-  pub read : (t : Reading) → Reads t w → map (λ p. (t.tree p.0, t.tree p.1)) ps ≡ es
+  pub read : (t : Reading) → Reads t w → map (λ p. (t.tree p.0.0, t.tree p.1.0)) ps ≡ es
 
 -- names with their expressions
-pub record HasEntries (w : Held) (xs : List (PyStrInterned × ℕ)) (es : List (Text × Tree)) : Type 0 where
+pub record HasEntries (w : Held) (xs : List (PyStrInterned × ExprRef)) (es : List (Text × Tree)) : Type 0 where
   pub names : Holds w (AreNames (map (λ e. e.0) xs))
   pub values : Holds w (AreExpressions (map (λ e. e.1) xs))
-  pub read : (t : Reading) → Reads t w → map (λ e. (t.text e.0.0, t.tree e.1)) xs ≡ es
+  pub read : (t : Reading) → Reads t w → map (λ e. (t.text e.0.0, t.tree e.1.0)) xs ≡ es
 
 -- what is to be stored, whose parts are there, would stand for the tree
 pub record HasForm (w : Held) (f : Form) (e : Tree) : Type 0 where

@@ -5,24 +5,26 @@ ghost use Rattle.std.specs.Prelude.{◌≡◌};
 ghost use Rattle.world_text.specs.Store.{Adds, HasName, HasNames, HasTree, HasTrees, HasPairs, HasEntries, HasForm};
 
 use class_world::World;
-use py_node::{CallParts, ClassParts, Constant, Expr, Form, FuncParts, OutOfMemory, PyStrInterned};
+use py_node::{
+    CallParts, ClassParts, Constant, Expr, ExprRef, Form, FuncParts, OutOfMemory, PyStrInterned,
+};
 
 /// Puts an expression into the store, and answers its number there.
-pub fn add_expr(world: &mut World, expr: &Expr) -> Result<u64, OutOfMemory>
-    ensures added { IfOk result (λ n. (t : Reading) → Reads t world.new → t.tree n ≡ tree_of expr.now) }
+pub fn add_expr(world: &mut World, expr: &Expr) -> Result<ExprRef, OutOfMemory>
+    ensures added { IfOk result (λ e. (t : Reading) → Reads t world.new → t.tree e.0 ≡ tree_of expr.now) }
     ensures same { (t : Reading) → plain t world.new ≡ plain t world.old }
     ensures reads { (t : Reading) → Reads t world.new → Reads t world.old }
     ensures grows { Grows world.old world.new }
-    ensures holds { IfOk result (λ n. Holds world.new (IsExpression n)) }
+    ensures holds { IfOk result (λ e. Holds world.new (IsExpression e)) }
 {
     store(world, expr)
 }
 
 // Stores an expression after its parts.
 #[cycle(store)]
-fn store(world: &mut World, expr: &Expr) -> Result<u64, OutOfMemory>
+fn store(world: &mut World, expr: &Expr) -> Result<ExprRef, OutOfMemory>
     ensures adds { Adds world.old world.new }
-    ensures tree { IfOk result (λ n. HasTree world.new n (tree_of expr.now)) }
+    ensures tree { IfOk result (λ e. HasTree world.new e (tree_of expr.now)) }
 {
     let form = form_of(world, expr)?;
     world.add_form(form)
@@ -130,23 +132,26 @@ fn form_of(world: &mut World, expr: &Expr) -> Result<Form, OutOfMemory>
     }
 }
 
-// The numbers of expressions, in order.
+// Stores expressions, in order.
 #[cycle(store)]
-fn store_each(world: &mut World, exprs: &Vec<Expr>) -> Result<Vec<u64>, OutOfMemory>
+fn store_each(world: &mut World, exprs: &Vec<Expr>) -> Result<Vec<ExprRef>, OutOfMemory>
     ensures adds { Adds world.old world.new }
-    ensures trees { IfOk result (λ ns. HasTrees world.new ns.items (map tree_of exprs.now.items)) }
+    ensures trees { IfOk result (λ es. HasTrees world.new es.items (map tree_of exprs.now.items)) }
 {
     let alloc = world.alloc();
-    let mut numbers = Vec::with_capacity(alloc, exprs.len())?;
+    let mut stored = Vec::with_capacity(alloc, exprs.len())?;
     for expr in exprs {
-        numbers.push(store(world, expr)?)?;
+        stored.push(store(world, expr)?)?;
     }
-    Ok(numbers)
+    Ok(stored)
 }
 
-// The numbers of keys with those of their values, in order.
+// Stores keys with their values, in order.
 #[cycle(store)]
-fn store_pairs(world: &mut World, pairs: &Vec<(Expr, Expr)>) -> Result<Vec<(u64, u64)>, OutOfMemory>
+fn store_pairs(
+    world: &mut World,
+    pairs: &Vec<(Expr, Expr)>,
+) -> Result<Vec<(ExprRef, ExprRef)>, OutOfMemory>
     ensures adds { Adds world.old world.new }
     ensures pairs { IfOk result (λ ps. HasPairs world.new ps.items (map pair_of pairs.now.items)) }
 {
@@ -160,12 +165,12 @@ fn store_pairs(world: &mut World, pairs: &Vec<(Expr, Expr)>) -> Result<Vec<(u64,
     Ok(stored)
 }
 
-// The names of entries with the numbers of their expressions, in order.
+// Stores entries: their names with their expressions, in order.
 #[cycle(store)]
 fn store_entries(
     world: &mut World,
     entries: &Vec<(String, Expr)>,
-) -> Result<Vec<(PyStrInterned, u64)>, OutOfMemory>
+) -> Result<Vec<(PyStrInterned, ExprRef)>, OutOfMemory>
     ensures adds { Adds world.old world.new }
     ensures entries { IfOk result (λ es. HasEntries world.new es.items (map part_of entries.now.items)) }
 {
@@ -173,8 +178,8 @@ fn store_entries(
     let mut stored = Vec::with_capacity(alloc, entries.len())?;
     for (name, expr) in entries {
         let name = name_of(world, name)?;
-        let number = store(world, expr)?;
-        stored.push((name, number))?;
+        let value = store(world, expr)?;
+        stored.push((name, value))?;
     }
     Ok(stored)
 }

@@ -1,5 +1,5 @@
 -- What the contracts of the rows of expressions say.
-use Rattle.proto_call.specs.Below.{ℕ, ltb, Bool, List, [], map, length, Option, Some, None, Result, Ok, slice_get, Raised as Fault, PyObjectRef, Answer, Value, EvalTask, PyStrInterned, Step, Ask, End, Form, literal_of, Tree, TCall, TDict, KeyedTrees, no_keyed, Trees, no_trees, Entries, no_entries, Bindings, PlainWorld, DoEval, DoInvoke, DoCall, PlainTask, ToAttribute, ToCall, Ended, Fact, Answered, Told, Ends, Row, end, value, World, Reading, Reads, plain, eval_job, method_target, method_func, ended_of, Group, Point, of_method, Claim, IsNode, AreNodes, IsExpression, HasForm, of_pairs}
+use Rattle.proto_call.specs.Below.{ℕ, ltb, Bool, List, [], map, length, Option, Some, None, Result, Ok, slice_get, Raised as Fault, ExprRef, PyObjectRef, Answer, Value, EvalTask, PyStrInterned, Step, Ask, End, Form, literal_of, Tree, TCall, TDict, KeyedTrees, no_keyed, Trees, no_trees, Entries, no_entries, Bindings, PlainWorld, DoEval, DoInvoke, DoCall, PlainTask, ToAttribute, ToCall, Ended, Fact, Answered, Told, Ends, Row, end, value, World, Reading, Reads, plain, eval_job, method_target, method_func, ended_of, Group, Point, of_method, Claim, IsNode, AreNodes, IsExpression, HasForm, of_pairs}
 use Rattle.std.specs.Prelude.{◌≡◌, ◌∷◌, ◌++◌}
 use Rattle.py_node.specs.declared.payload.Form.TheVariants as form
 use Rattle.row_kit.specs.Points as points
@@ -61,15 +61,15 @@ eval_stands t (Made o) r w = made w o r
 eval_stands t (Count k o) r w = counted_by w k o r
 eval_stands t (Start p o j) r w = part_start w p o j r
 eval_stands t (Stop p o i) r w = part_stop w p o (value i) r
-eval_stands t (Branch a b) r w = branch_say w (t.tree a) (t.tree b) r
-eval_stands t (Operands e vs) r w = λ told. operands_row (t.tree e) vs.items w (Answered r ∷ told)
-eval_stands t (Load e) r w = on_method w r (invoke_say w (args_of (t.tree e)) (keywords_of (t.tree e)))
-eval_stands t (Arguments e f vs) r w = λ told. arguments_row (t.tree e) f vs.items w (Answered r ∷ told)
-eval_stands t (Key e es) r w = λ told. pairs_row (t.tree e) es.items w (Answered r ∷ told)
-eval_stands t (OfKey e es k) r w = λ told. pairs_row (t.tree e) es.items w (answered k ∷ Answered r ∷ told)
+eval_stands t (Branch a b) r w = branch_say w (t.tree a.0) (t.tree b.0) r
+eval_stands t (Operands e vs) r w = λ told. operands_row (t.tree e.0) vs.items w (Answered r ∷ told)
+eval_stands t (Load e) r w = on_method w r (invoke_say w (args_of (t.tree e.0)) (keywords_of (t.tree e.0)))
+eval_stands t (Arguments e f vs) r w = λ told. arguments_row (t.tree e.0) f vs.items w (Answered r ∷ told)
+eval_stands t (Key e es) r w = λ told. pairs_row (t.tree e.0) es.items w (Answered r ∷ told)
+eval_stands t (OfKey e es k) r w = λ told. pairs_row (t.tree e.0) es.items w (answered k ∷ Answered r ∷ told)
 
 -- the operands of an expression of the store, in order
-abbrev pub operands : Form → List ℕ
+abbrev pub operands : Form → List ExprRef
 operands (form.Bind x e) = e ∷ []
 operands (form.Tuple es) = es.items
 operands (form.List es) = es.items
@@ -83,7 +83,7 @@ operands (form.Seq es) = es.items
 operands (form.Class parts) = parts.value.bases.items ++ (map (λ e. e.1) parts.value.keywords.items ++ map (λ e. e.1) parts.value.entries.items)
 operands _ = []
 
-abbrev pub operands_at : Option Form → List ℕ
+abbrev pub operands_at : Option Form → List ExprRef
 operands_at None = []
 operands_at (Some f) = operands f
 
@@ -97,23 +97,23 @@ evaluated_tree (form.Call parts) x = callee_tree x
 evaluated_tree _ x = x
 
 -- the object and the name of an attribute
-abbrev pub attribute : Form → Option (ℕ × PyStrInterned)
+abbrev pub attribute : Form → Option (ExprRef × PyStrInterned)
 attribute (form.Attr o x) = Some (o, x)
 attribute _ = None
 
 -- the arguments of a call of the store, its keywords, and all that is evaluated for both
-abbrev pub positional : Form → List ℕ
+abbrev pub positional : Form → List ExprRef
 positional (form.Call parts) = parts.value.args.items
 positional _ = []
 
-abbrev pub named : Form → List (PyStrInterned × ℕ)
+abbrev pub named : Form → List (PyStrInterned × ExprRef)
 named (form.Call parts) = parts.value.keywords.items
 named _ = []
 
-abbrev pub arguments : Form → List ℕ
+abbrev pub arguments : Form → List ExprRef
 arguments f = positional f ++ map (λ k. k.1) (named f)
 
-abbrev pub arguments_at : Option Form → List ℕ
+abbrev pub arguments_at : Option Form → List ExprRef
 arguments_at None = []
 arguments_at (Some f) = arguments f
 
@@ -122,11 +122,11 @@ abbrev pub has_argument : ℕ → Form → Bool
 has_argument n f = ltb n (length (arguments f))
 
 -- the pairs of a dict of the store
-abbrev pub pairs : Form → List (ℕ × ℕ)
+abbrev pub pairs : Form → List (ExprRef × ExprRef)
 pairs (form.Dict ps) = ps.items
 pairs _ = []
 
-abbrev pub pairs_at : Option Form → List (ℕ × ℕ)
+abbrev pub pairs_at : Option Form → List (ExprRef × ExprRef)
 pairs_at None = []
 pairs_at (Some f) = pairs f
 
@@ -173,8 +173,8 @@ abbrev pub Resumes : EvalKept → Result Answer Fault → World → World → St
 Resumes = points.Resumes eval_group
 
 -- the row of an expression whose operands have these values so far
-abbrev pub Continues : ℕ → List PyObjectRef → World → World → Step EvalKept → Type 0
-Continues e vs = Goes (λ t. operands_row (t.tree e) vs)
+abbrev pub Continues : ExprRef → List PyObjectRef → World → World → Step EvalKept → Type 0
+Continues e vs = Goes (λ t. operands_row (t.tree e.0) vs)
 
 -- what is kept of an expression's own step is that of the expression
 abbrev pub IsOwn : Own → Form → Type 0
@@ -213,8 +213,8 @@ IsOwn (own.Class x n ks xs) (form.Class parts) =
 IsOwn (own.Class x n ks xs) _ = ⊥
 
 -- the expression's operands have so many values
-abbrev pub HasValues : World → ℕ → List PyObjectRef → Type 0
-HasValues w e vs = length (operands_at (slice_get w.forms e)) ≡ length vs
+abbrev pub HasValues : World → ExprRef → List PyObjectRef → Type 0
+HasValues w e vs = length (operands_at (slice_get w.forms e.0)) ≡ length vs
 
 -- a step ends a row, as the row says under every reading
 abbrev pub EndsRow : (Reading → PlainWorld → Row) → World → World → Step EvalKept → Type 0

@@ -13,8 +13,8 @@ use class_world::World;
 use class_world::args::copy_args;
 use py_node::task::{Args, Keywords};
 use py_node::{
-    Answer, AttributeTask, CallTask, Cause, EvalTask, Form, OutOfMemory, PyMethod, PyObjectRef,
-    PyStrInterned, Raised, Step, Task,
+    Answer, AttributeTask, CallTask, Cause, EvalTask, ExprRef, Form, OutOfMemory, PyMethod,
+    PyObjectRef, PyStrInterned, Raised, Step, Task,
 };
 use std::alloc::Global;
 
@@ -26,10 +26,10 @@ pub enum Called {
 }
 
 // What is evaluated for an operand: where a call's operand is an attribute, the object.
-pub(crate) fn evaluated(world: &World, form: &Form, operand: u64) -> u64
+pub(crate) fn evaluated(world: &World, form: &Form, operand: ExprRef) -> ExprRef
     requires { Holds world.now (IsExpression operand) }
     ensures tree { (t : Reading) → Reads t world.now →
-        t.tree result ≡ evaluated_tree form.now (t.tree operand) }
+        t.tree result.0 ≡ evaluated_tree form.now (t.tree operand.0) }
     ensures holds { Holds world.now (IsExpression result) }
 {
     match form {
@@ -39,9 +39,9 @@ pub(crate) fn evaluated(world: &World, form: &Form, operand: u64) -> u64
 }
 
 // What a call evaluates first.
-fn callee(world: &World, func: u64) -> u64
+fn callee(world: &World, func: ExprRef) -> ExprRef
     requires { Holds world.now (IsExpression func) }
-    ensures tree { (t : Reading) → Reads t world.now → t.tree result ≡ callee_tree (t.tree func) }
+    ensures tree { (t : Reading) → Reads t world.now → t.tree result.0 ≡ callee_tree (t.tree func.0) }
     ensures holds { Holds world.now (IsExpression result) }
 {
     match attribute(world.form(func)) {
@@ -51,7 +51,7 @@ fn callee(world: &World, func: u64) -> u64
 }
 
 // The object and the name of an attribute.
-fn attribute(form: &Form) -> Option<(u64, PyStrInterned)>
+fn attribute(form: &Form) -> Option<(ExprRef, PyStrInterned)>
     ensures { result ≡ attribute form.now }
 {
     match form {
@@ -63,15 +63,15 @@ fn attribute(form: &Form) -> Option<(u64, PyStrInterned)>
 // What is called has a value, or the object whose method is.
 pub(crate) fn call_step(
     world: &World,
-    e: u64,
-    func: u64,
+    e: ExprRef,
+    func: ExprRef,
     value: Option<PyObjectRef>,
 ) -> Result<Step<EvalKept>, OutOfMemory>
     requires call { Holds world.now (IsExpression e) }
     requires func { Holds world.now (IsExpression func) }
     requires value { AllHold world.now (of_option of_node_ref value) }
     ensures goes { IfOk result (λ step. Goes (λ t u.
-        called_say u (t.tree func) (args_of (t.tree e)) (keywords_of (t.tree e)) value) world.now world.now step) }
+        called_say u (t.tree func.0) (args_of (t.tree e.0)) (keywords_of (t.tree e.0)) value) world.now world.now step) }
     ensures safe { IfOk result (λ step. AllHold world.now (of_step of_eval_kept step)) }
 {
     match value {
@@ -83,15 +83,15 @@ pub(crate) fn call_step(
 // An attribute that is called is loaded as a method. Else the first argument is evaluated.
 fn callee_step(
     world: &World,
-    e: u64,
-    func: u64,
+    e: ExprRef,
+    func: ExprRef,
     value: PyObjectRef,
 ) -> Result<Step<EvalKept>, OutOfMemory>
     requires call { Holds world.now (IsExpression e) }
     requires func { Holds world.now (IsExpression func) }
     requires value { Holds world.now (IsNode value) }
     ensures goes { IfOk result (λ step. Goes (λ t u.
-        callee_say u (t.tree func) (args_of (t.tree e)) (keywords_of (t.tree e)) value) world.now world.now step) }
+        callee_say u (t.tree func.0) (args_of (t.tree e.0)) (keywords_of (t.tree e.0)) value) world.now world.now step) }
     ensures safe { IfOk result (λ step. AllHold world.now (of_step of_eval_kept step)) }
 {
     match attribute(world.form(func)) {
@@ -106,7 +106,7 @@ fn callee_step(
 // A method was loaded: the first argument is evaluated.
 pub(crate) fn loaded(
     world: &World,
-    e: u64,
+    e: ExprRef,
     answer: Result<Answer, Raised>,
 ) -> Result<Step<EvalKept>, OutOfMemory>
     requires call { Holds world.now (IsExpression e) }
@@ -125,7 +125,7 @@ pub(crate) fn loaded(
 // An argument or a keyword was evaluated.
 pub(crate) fn argued(
     world: &World,
-    e: u64,
+    e: ExprRef,
     called: Called,
     values: Vec<PyObjectRef>,
     answer: Result<Answer, Raised>,
@@ -149,15 +149,15 @@ pub(crate) fn argued(
 // called with them.
 fn next_argument(
     world: &World,
-    e: u64,
+    e: ExprRef,
     called: Called,
     values: Vec<PyObjectRef>,
 ) -> Result<Step<EvalKept>, OutOfMemory>
     requires call { Holds world.now (IsExpression e) }
     requires called { AllHold world.now (of_called called) }
     requires values { Holds world.now (AreNodes values.items) }
-    requires fits { length values.items ≤ length (arguments_at (slice_get world.now.forms e)) }
-    ensures goes { IfOk result (λ step. Goes (λ t. arguments_row (t.tree e) called values.items) world.now world.now step) }
+    requires fits { length values.items ≤ length (arguments_at (slice_get world.now.forms e.0)) }
+    ensures goes { IfOk result (λ step. Goes (λ t. arguments_row (t.tree e.0) called values.items) world.now world.now step) }
     ensures safe { IfOk result (λ step. AllHold world.now (of_step of_eval_kept step)) }
 {
     let form = world.form(e);
@@ -188,7 +188,7 @@ fn call_plainly(alloc: Global, called: Called, values: Args) -> Step<EvalKept>
 }
 
 // The arguments of a call.
-fn positional(form: &Form) -> &[u64]
+fn positional(form: &Form) -> &[ExprRef]
     ensures { result.now ≡ positional form.now }
 {
     match form {
@@ -198,7 +198,7 @@ fn positional(form: &Form) -> &[u64]
 }
 
 // The keywords of a call.
-fn named(form: &Form) -> &[(PyStrInterned, u64)]
+fn named(form: &Form) -> &[(PyStrInterned, ExprRef)]
     ensures { result.now ≡ named form.now }
 {
     match form {
@@ -208,7 +208,7 @@ fn named(form: &Form) -> &[(PyStrInterned, u64)]
 }
 
 // What is evaluated at a place: an argument of a call, or past them a keyword.
-fn argument(form: &Form, place: usize) -> Option<u64>
+fn argument(form: &Form, place: usize) -> Option<ExprRef>
     ensures { result ≡ slice_get (arguments form.now) place }
 {
     let args = positional(form);

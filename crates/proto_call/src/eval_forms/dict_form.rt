@@ -9,8 +9,8 @@ use crate::eval_forms::{EvalKept, object_of};
 use class_world::World;
 use class_world::limits::is_within_limit;
 use py_node::{
-    Answer, BuiltIn, Cause, EvalTask, Form, OutOfMemory, Payload, PyDict, PyObjectRef, Raised,
-    Step, Task,
+    Answer, BuiltIn, Cause, EvalTask, ExprRef, Form, OutOfMemory, Payload, PyDict, PyObjectRef,
+    Raised, Step, Task,
 };
 
 // Keys with their values.
@@ -19,13 +19,13 @@ type Pairs = Vec<(PyObjectRef, PyObjectRef)>;
 // The next key is evaluated. Where all pairs have values, they are a new dict.
 pub(crate) fn next_key(
     world: &mut World,
-    e: u64,
+    e: ExprRef,
     found: Pairs,
 ) -> Result<Step<EvalKept>, OutOfMemory>
     requires dict { Holds world.old (IsExpression e) }
     requires found { AllHold world.old (of_pairs found.items) }
-    requires fits { length found.items ≤ length (pairs_at (slice_get world.old.forms e)) }
-    ensures goes { IfOk result (λ step. Goes (λ t. pairs_row (t.tree e) found.items) world.old world.new step) }
+    requires fits { length found.items ≤ length (pairs_at (slice_get world.old.forms e.0)) }
+    ensures goes { IfOk result (λ step. Goes (λ t. pairs_row (t.tree e.0) found.items) world.old world.new step) }
     ensures safe { Leaves of_eval_kept world.old world.new result }
 {
     match pair(world.form(e), found.len()) {
@@ -35,7 +35,7 @@ pub(crate) fn next_key(
 }
 
 // The pairs of a dict.
-fn pairs(form: &Form) -> &[(u64, u64)]
+fn pairs(form: &Form) -> &[(ExprRef, ExprRef)]
     ensures { result.now ≡ pairs form.now }
 {
     match form {
@@ -45,7 +45,7 @@ fn pairs(form: &Form) -> &[(u64, u64)]
 }
 
 // The pair of a dict at a place.
-fn pair(form: &Form, place: usize) -> Option<(u64, u64)>
+fn pair(form: &Form, place: usize) -> Option<(ExprRef, ExprRef)>
     ensures { result ≡ slice_get (pairs form.now) place }
 {
     pairs(form).get(place).copied()
@@ -54,7 +54,7 @@ fn pair(form: &Form, place: usize) -> Option<(u64, u64)>
 // A key was evaluated: its value is.
 pub(crate) fn keyed(
     world: &World,
-    e: u64,
+    e: ExprRef,
     found: Pairs,
     answer: Result<Answer, Raised>,
 ) -> Step<EvalKept>
@@ -78,7 +78,7 @@ pub(crate) fn keyed(
 // A value was evaluated: its key is tested.
 pub(crate) fn valued(
     world: &mut World,
-    e: u64,
+    e: ExprRef,
     found: Pairs,
     key: PyObjectRef,
     answer: Result<Answer, Raised>,

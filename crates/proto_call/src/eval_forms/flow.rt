@@ -7,11 +7,15 @@ ghost use Rattle.proto_call.specs.EvalForms.Rows.{EndsRow, Goes, Resumes, of_eva
 
 use crate::eval_forms::EvalKept;
 use class_world::{Fixed, World};
-use py_node::{Answer, Cause, EvalTask, ProtocolTask, PyObjectRef, Raised, Step, Task};
+use py_node::{Answer, Cause, EvalTask, ExprRef, ProtocolTask, PyObjectRef, Raised, Step, Task};
 
 // Whether the condition counts as true is asked.
-pub(crate) fn if_step(chosen: u64, other: u64, condition: Option<PyObjectRef>) -> Step<EvalKept>
-    ensures goes { (w : World) → Goes (λ t u. if_say u (t.tree chosen) (t.tree other) condition) w w result }
+pub(crate) fn if_step(
+    chosen: ExprRef,
+    other: ExprRef,
+    condition: Option<PyObjectRef>,
+) -> Step<EvalKept>
+    ensures goes { (w : World) → Goes (λ t u. if_say u (t.tree chosen.0) (t.tree other.0) condition) w w result }
     ensures safe { (w : World) → Holds w (IsExpression chosen) → Holds w (IsExpression other) →
         AllHold w (of_option of_node_ref condition) → AllHold w (of_step of_eval_kept result) }
 {
@@ -27,8 +31,8 @@ pub(crate) fn if_step(chosen: u64, other: u64, condition: Option<PyObjectRef>) -
 // Then the one branch or the other is evaluated.
 pub(crate) fn branch(
     world: &World,
-    chosen: u64,
-    other: u64,
+    chosen: ExprRef,
+    other: ExprRef,
     answer: Result<Answer, Raised>,
 ) -> Step<EvalKept>
     requires kept { AllHold world.now (of_eval_kept (EvalKept.Branch chosen other)) }

@@ -4,10 +4,10 @@ ghost use Rattle.proto_call.specs.Below.{[], map, slice_get};
 ghost use Rattle.std.specs.Prelude.{◌≡◌, ◌++◌, ◌∷◌};
 ghost use Rattle.proto_call.specs.EvalForms.Rows.{operands};
 
-use py_node::{Form, PyStrInterned};
+use py_node::{ExprRef, Form, PyStrInterned};
 
 // The operand of an expression at a place.
-pub(crate) fn operand(form: &Form, place: usize) -> Option<u64>
+pub(crate) fn operand(form: &Form, place: usize) -> Option<ExprRef>
     ensures { result ≡ slice_get (operands form.now) place }
 {
     match form {
@@ -40,10 +40,10 @@ pub(crate) fn operand(form: &Form, place: usize) -> Option<u64>
 
 // The expression at a place of two lists of entries, one after the other.
 fn entry_of_two(
-    first: &[(PyStrInterned, u64)],
-    second: &[(PyStrInterned, u64)],
+    first: &[(PyStrInterned, ExprRef)],
+    second: &[(PyStrInterned, ExprRef)],
     place: usize,
-) -> Option<u64>
+) -> Option<ExprRef>
     ensures { result ≡ slice_get (map (λ e. e.1) first.now ++ map (λ e. e.1) second.now) place }
 {
     if place < first.len() {
@@ -54,7 +54,7 @@ fn entry_of_two(
 }
 
 // The expression of the entry at a place.
-pub(crate) fn entry_value(entries: &[(PyStrInterned, u64)], place: usize) -> Option<u64>
+pub(crate) fn entry_value(entries: &[(PyStrInterned, ExprRef)], place: usize) -> Option<ExprRef>
     ensures { result ≡ slice_get (map (λ e. e.1) entries.now) place }
 {
     match entries.get(place) {
@@ -64,7 +64,7 @@ pub(crate) fn entry_value(entries: &[(PyStrInterned, u64)], place: usize) -> Opt
 }
 
 // The only one, at its place.
-fn first_of(only: u64, place: usize) -> Option<u64>
+fn first_of(only: ExprRef, place: usize) -> Option<ExprRef>
     ensures { result ≡ slice_get (only ∷ []) place }
 {
     if place == 0 { Some(only) } else { None }

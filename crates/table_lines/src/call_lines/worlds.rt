@@ -7,8 +7,8 @@ ghost use Rattle.class_world.specs.Sound.{Holds, Holding, IsNode};
 use crate::{NoValue, Table};
 use class_world::{Fixed, World};
 use py_node::{
-    BuiltIn, Constant, Expr, Known, OutOfMemory, Payload, PyDict, PyObjectRef, PyStrInterned,
-    PyTypeRef,
+    BuiltIn, Constant, Expr, ExprRef, Known, OutOfMemory, Payload, PyDict, PyObjectRef,
+    PyStrInterned, PyTypeRef,
 };
 use world_text::expressions::add_expr;
 use world_text::show::show;
@@ -41,7 +41,7 @@ fn put_numbers(table: &mut Table, world: &World) {
     table.tell("World::is_class 22", &world.is_class(PyTypeRef(22)));
     table.tell("World::is_class 23", &world.is_class(PyTypeRef(23)));
     table.tell("World::is_name 69", &world.is_name(PyStrInterned(69)));
-    table.tell("World::is_expression 0", &world.is_expression(0));
+    table.tell("World::is_expression 0", &world.is_expression(ExprRef(0)));
 }
 
 // A text that no world knows.

@@ -46,8 +46,8 @@ fn interned(vm: &mut VirtualMachine) -> Result<String, OutOfMemory> {
 
 // Whether a constant is an expression of the world then.
 fn stored(vm: &mut VirtualMachine) -> Result<bool, OutOfMemory> {
-    let number = vm.add_expr(&Expr::Const(Constant::True))?;
-    Ok(vm.world().is_expression(number))
+    let expr = vm.add_expr(&Expr::Const(Constant::True))?;
+    Ok(vm.world().is_expression(expr))
 }
 
 fn made_number(vm: &mut VirtualMachine) -> Result<String, NoValue> {

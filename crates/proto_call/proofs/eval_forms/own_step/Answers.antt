@@ -67,10 +67,10 @@ returns-in-Call-clause-goes c =
     let long = ap (λ o. length (operands_at o)) (sym c.form.ensures.stored) ∙ c.requires.all in
     let is = rw c.deref-in-Call.ensures.value at c.one_of-in-Call.ensures in
     let goes = rw is at c.call_step.ensures.goes in
-    let row = λ (t : Reading) (u : PlainWorld). called_say u (t.tree g) (args_of (t.tree e)) (keywords_of (t.tree e)) (one_of vs) in
+    let row = λ (t : Reading) (u : PlainWorld). called_say u (t.tree g.0) (args_of (t.tree e.0)) (keywords_of (t.tree e.0)) (one_of vs) in
     ok-map (λ step. Goes row w w step) (λ step. Continues e vs w w step) c.call_step.result (λ step k. own-takes-read w w e f vs row step c.form.ensures.stored long (λ t r u more.
     says-call g vs f own t u more
-    ∙ ap (λ x. called_say u (t.tree g) (args_of x) (keywords_of x) (one_of vs) more) (sym (r.trees e f c.form.ensures.stored))) k) goes
+    ∙ ap (λ x. called_say u (t.tree g.0) (args_of x) (keywords_of x) (one_of vs) more) (sym (r.trees e.0 f c.form.ensures.stored))) k) goes
 
 pub returns-in-Raise-clause-goes : goal.returns-in-Raise-clause-goes
 returns-in-Raise-clause-goes c =
@@ -158,7 +158,7 @@ returns-in-If-clause-goes c =
     let long = ap (λ o. length (operands_at o)) (sym c.form.ensures.stored) ∙ c.requires.all in
     let is = rw c.deref-in-If.ensures.value at c.one_of-in-If.ensures in
     let goes = rw is at c.if_step-step.ensures.goes in
-    own-takes w w c.args.e f vs (λ t u. if_say u (t.tree a) (t.tree b) (one_of vs)) c.if_step-step.result c.form.ensures.stored long (says-if a b vs f own) (goes w)
+    own-takes w w c.args.e f vs (λ t u. if_say u (t.tree a.0) (t.tree b.0) (one_of vs)) c.if_step-step.result c.form.ensures.stored long (says-if a b vs f own) (goes w)
 
 pub returns-in-If-clause-safe : goal.returns-in-If-clause-safe
 returns-in-If-clause-safe c =

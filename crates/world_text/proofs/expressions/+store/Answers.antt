@@ -1,4 +1,4 @@
-use Rattle.world_text.proofs.Lemmas.{ℕ, ap, String, Global, PyStrInterned, FuncParts, CallParts, ClassParts, Expr, adds-itself, adds-on, tree-as, name-stays, names-stay, tree-stays, trees-stay, pairs-stay, entries-stay, stored, no-tree, no-pair, no-entry, trees-next, pairs-next, entries-next, call-form, class-form, attr-form, bind-form, del_attr-form, dict-form, func-form, if-form, list-form, op-form, seq-form, set_attr-form, tuple-form}
+use Rattle.world_text.proofs.Lemmas.{ap, String, Global, PyStrInterned, FuncParts, CallParts, ClassParts, Expr, ExprRef, adds-itself, adds-on, tree-as, name-stays, names-stay, tree-stays, trees-stay, pairs-stay, entries-stay, stored, no-tree, no-pair, no-entry, trees-next, pairs-next, entries-next, call-form, class-form, attr-form, bind-form, del_attr-form, dict-form, func-form, if-form, list-form, op-form, seq-form, set_attr-form, tuple-form}
 use Rattle.world_text.proofs.expressions.+store.Goals as goal
 
 pub store-add_form-requires : goal.store-add_form-requires
@@ -13,7 +13,7 @@ store-returns-clause-tree t c =
     stored c.form_of.new.world c.add_form.new.self c.in_ok-form.form _ c.add_form.result c.add_form.ensures.added c.add_form.ensures.holds c.add_form.ensures.reads c.in_ok-form.ensures.form
 
 pub store_each-loop-expr-init : goal.store_each-loop-expr-init
-store_each-loop-expr-init t c = record { adds = adds-itself _; trees = rw c.in_ok-numbers.ensures.items (no-tree _) }
+store_each-loop-expr-init t c = record { adds = adds-itself _; trees = rw c.in_ok-stored.ensures.items (no-tree _) }
 
 pub store_each-loop-expr-preserved : goal.store_each-loop-expr-preserved
 store_each-loop-expr-preserved t c = record {
@@ -42,7 +42,7 @@ store_entries-loop-name-preserved t c =
     let value = c.store.ensures.adds in
     record {
       adds = adds-on c.loop-name.invariant.adds (adds-on name value);
-      entries = rw c.in_ok-push.ensures.items (entries-next c.deref-name-items.result.now c.loop-name.name-index c.loop-name-item.result c.loop-name-test.true c.loop-name-item.is (entries-stay value (entries-stay name c.loop-name.invariant.entries)) (name-stays value c.in_ok-name.ensures.name) c.in_ok-number.ensures.tree);
+      entries = rw c.in_ok-push.ensures.items (entries-next c.deref-name-items.result.now c.loop-name.name-index c.loop-name-item.result c.loop-name-test.true c.loop-name-item.is (entries-stay value (entries-stay name c.loop-name.invariant.entries)) (name-stays value c.in_ok-name.ensures.name) c.in_ok-value.ensures.tree);
     }
 
 pub form_of-returns-in_ok-boxed-in-Call-clause-form : goal.form_of-returns-in_ok-boxed-in-Call-clause-form
@@ -51,7 +51,7 @@ form_of-returns-in_ok-boxed-in-Call-clause-form t c =
     let k = c.in-Call in
     let args = c.store_each-in-Call.ensures.adds in
     let keywords = c.store_entries.ensures.adds in
-    let parts : CallParts PyStrInterned ℕ = record { function = c.in_ok-function-in-Call.function; args = c.in_ok-args-in-Call.args; keywords = c.in_ok-keywords-in-Call.keywords } in
+    let parts : CallParts PyStrInterned ExprRef = record { function = c.in_ok-function-in-Call.function; args = c.in_ok-args-in-Call.args; keywords = c.in_ok-keywords-in-Call.keywords } in
     call-form b.boxed parts k.call b.ensures.ok k.is c.deref-in-Call.ensures c.deref-in-Call-2.ensures c.deref-in-Call-3.ensures (tree-stays keywords (tree-stays args c.in_ok-function-in-Call.ensures.tree)) (trees-stay keywords c.in_ok-args-in-Call.ensures.trees) c.in_ok-keywords-in-Call.ensures.entries
 
 pub form_of-returns-in_ok-boxed-in-Class-clause-form : goal.form_of-returns-in_ok-boxed-in-Class-clause-form
@@ -63,7 +63,7 @@ form_of-returns-in_ok-boxed-in-Class-clause-form t c =
     let entries = c.store_entries-in-Class-2.ensures.adds in
     let name = name-stays entries (name-stays keywords (name-stays bases c.in_ok-name-in-Class.ensures.name)) in
     let read = trees-stay entries (trees-stay keywords c.in_ok-bases-in-Class.ensures.trees) in
-    let parts : ClassParts PyStrInterned ℕ = record { name = c.in_ok-name-in-Class.name; bases = c.in_ok-bases-in-Class.bases; keywords = c.in_ok-keywords-in-Class.keywords; entries = c.in_ok-entries-in-Class.entries } in
+    let parts : ClassParts PyStrInterned ExprRef = record { name = c.in_ok-name-in-Class.name; bases = c.in_ok-bases-in-Class.bases; keywords = c.in_ok-keywords-in-Class.keywords; entries = c.in_ok-entries-in-Class.entries } in
     class-form b.boxed parts k.class b.ensures.ok k.is c.deref-in-Class.ensures c.deref-in-Class-2.ensures c.deref-in-Class-3.ensures c.deref-in-Class-4.ensures name read (entries-stay entries c.in_ok-keywords-in-Class.ensures.entries) c.in_ok-entries-in-Class.ensures.entries
 
 pub form_of-returns-in_ok-value-in-Bind-clause-form : goal.form_of-returns-in_ok-value-in-Bind-clause-form
@@ -90,7 +90,7 @@ pub form_of-returns-in_ok-boxed-in-Func-clause-form : goal.form_of-returns-in_ok
 form_of-returns-in_ok-boxed-in-Func-clause-form t c =
     let b = c.in_ok-boxed-in-Func in
     let k = c.in-Func in
-    let parts : FuncParts PyStrInterned ℕ = record { name = c.in_ok-name-in-Func.name; params = c.in_ok-params-in-Func.params; rest = c.deref-in-Func-4.result.now.rest; body = c.in_ok-body-in-Func.body } in
+    let parts : FuncParts PyStrInterned ExprRef = record { name = c.in_ok-name-in-Func.name; params = c.in_ok-params-in-Func.params; rest = c.deref-in-Func-4.result.now.rest; body = c.in_ok-body-in-Func.body } in
     func-form b.boxed parts k.func b.ensures.ok k.is c.deref-in-Func.ensures c.deref-in-Func-2.ensures c.deref-in-Func-3.ensures (ap (λ (v : FuncParts (String Global) Expr). v.rest) c.deref-in-Func-4.ensures) (name-stays c.store-in-Func.ensures.adds (name-stays c.names_of.ensures.adds c.in_ok-name-in-Func.ensures.name)) (names-stay c.store-in-Func.ensures.adds c.in_ok-params-in-Func.ensures.names) c.in_ok-body-in-Func.ensures.tree
 
 pub form_of-returns-in_ok-name-in-Attr-clause-form : goal.form_of-returns-in_ok-name-in-Attr-clause-form
@@ -217,8 +217,8 @@ store_pairs-returns-in_err-push-clause-adds t c = adds-on c.loop-key.invariant.a
 pub store_entries-returns-in_err-name-clause-adds : goal.store_entries-returns-in_err-name-clause-adds
 store_entries-returns-in_err-name-clause-adds t c = adds-on c.loop-name.invariant.adds c.name_of.ensures.adds
 
-pub store_entries-returns-in_err-number-clause-adds : goal.store_entries-returns-in_err-number-clause-adds
-store_entries-returns-in_err-number-clause-adds t c = adds-on c.loop-name.invariant.adds (adds-on c.name_of.ensures.adds c.store.ensures.adds)
+pub store_entries-returns-in_err-value-clause-adds : goal.store_entries-returns-in_err-value-clause-adds
+store_entries-returns-in_err-value-clause-adds t c = adds-on c.loop-name.invariant.adds (adds-on c.name_of.ensures.adds c.store.ensures.adds)
 
 pub store_entries-returns-in_err-push-clause-adds : goal.store_entries-returns-in_err-push-clause-adds
 store_entries-returns-in_err-push-clause-adds t c = adds-on c.loop-name.invariant.adds (adds-on c.name_of.ensures.adds c.store.ensures.adds)

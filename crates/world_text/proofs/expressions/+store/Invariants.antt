@@ -4,7 +4,7 @@ use Rattle.world_text.proofs.expressions.+store.Given as goal
 abbrev pub invariant-store_each-loop-expr : goal.invariant-store_each-loop-expr
 invariant-store_each-loop-expr l = record {
   adds : Adds l.initial.world l.world;
-  trees : HasTrees l.world l.numbers.items (map tree_of (take l.expr-index l.expr-items));
+  trees : HasTrees l.world l.stored.items (map tree_of (take l.expr-index l.expr-items));
 }
 
 abbrev pub invariant-store_pairs-loop-key : goal.invariant-store_pairs-loop-key

@@ -27,7 +27,7 @@ returns-in_ok-names-in-None-clause-goes c =
     let row = λ (t : Reading) (u : PlainWorld). given_say u (called_task called) (length (positional f)) (map (spelled t) (map (λ k. k.0) (named f))) vs.items in
     let goes : IfOk c.call_with.result (λ step. (v : World) → Goes row v v step) =
     rw (← c.positional.ensures, ← names, ← c.deref.ensures.value, ← c.deref-in-None.ensures.value) c.call_with.ensures.goes in
-    ok-map (λ step. (v : World) → Goes row v v step) (λ step. Goes (λ t. arguments_row (t.tree c.args.e) called vs.items) w w step) c.call_with.result
+    ok-map (λ step. (v : World) → Goes row v v step) (λ step. Goes (λ t. arguments_row (t.tree c.args.e.0) called vs.items) w w step) c.call_with.result
     (λ step k. arguments-given w c.args.e f called vs step c.form-form.ensures.stored (sym e ∙ c.in-None.is) c.requires.fits (k w)) goes
 
 pub returns-in_ok-names-in-None-clause-safe : goal.returns-in_ok-names-in-None-clause-safe

@@ -13,10 +13,10 @@ returns-in-Ok-clause-goes c =
     let f = c.form.result.now in
     let es = c.args.found in
     let below = below-pairs w c.args.e (length es.items) f c.form.ensures.stored c.requires.kept.1.0 in
-    let p = slice_index_or (pairs f) (length es.items) (0, 0) in
-    let here : slice_get (pairs f) (length es.items) ≡ Some p = get-below (pairs f) (length es.items) (0, 0) below in
+    let p = slice_index_or (pairs f) (length es.items) (record { 0 = 0 }, record { 0 = 0 }) in
+    let here : slice_get (pairs f) (length es.items) ≡ Some p = get-below (pairs f) (length es.items) (record { 0 = 0 }, record { 0 = 0 }) below in
     let long : c.len.result ≡ length es.items = c.len.ensures ∙ es.ok.0 in
-    subst (λ s. Resumes (Key c.args.e es) s w w (Ask (task.Eval (eval.Eval (slice_index_or c.pairs.result.now c.len.result (0, 0)).1)) (OfKey c.args.e es c.in-Ok.key))) (sym c.in-Ok.ensures.object)
+    subst (λ s. Resumes (Key c.args.e es) s w w (Ask (task.Eval (eval.Eval (slice_index_or c.pairs.result.now c.len.result (record { 0 = 0 }, record { 0 = 0 })).1)) (OfKey c.args.e es c.in-Ok.key))) (sym c.in-Ok.ensures.object)
     (rw (c.pairs.ensures, long) (value-asked w c.args.e f es p c.form.ensures.stored here c.requires.kept.1.1.1.1.0 c.in-Ok.key))
 
 pub returns-in-Ok-clause-safe : goal.returns-in-Ok-clause-safe
@@ -25,8 +25,8 @@ returns-in-Ok-clause-safe c =
     let f = c.form.result.now in
     let es = c.args.found in
     let below = below-pairs w c.args.e (length es.items) f c.form.ensures.stored c.requires.kept.1.0 in
-    let p = slice_index_or (pairs f) (length es.items) (0, 0) in
-    let here : slice_get (pairs f) (length es.items) ≡ Some p = get-below (pairs f) (length es.items) (0, 0) below in
+    let p = slice_index_or (pairs f) (length es.items) (record { 0 = 0 }, record { 0 = 0 }) in
+    let here : slice_get (pairs f) (length es.items) ≡ Some p = get-below (pairs f) (length es.items) (record { 0 = 0 }, record { 0 = 0 }) below in
     let answer = subst (λ a. AllHold w (of_ended a)) c.in-Ok.ensures.object c.requires.answer in
     rw (c.pairs.ensures, c.len.ensures, es.ok.0) (
       (part-holds w f (length es.items) p c.form.ensures.holds here).1,

@@ -26,4 +26,4 @@ returns-in-None-clause-goes c =
     let es = c.args.found in
     let e = rw (c.len.ensures, c.args.found.ok.0) at c.pair.ensures in
     let goes = rw c.deref.ensures.value at c.make_dict.ensures.goes in
-    ok-map (λ step. EndsRow (λ t u. make_dict u (entries_from u es.items)) w new step) (λ step. Goes (λ t. pairs_row (t.tree c.args.e) es.items) w new step) c.make_dict.result (λ step k. dict-made w new c.args.e c.form.result.now es step c.form.ensures.stored (sym e ∙ c.in-None.is) c.requires.fits c.requires.found.1.1.0 k) goes
+    ok-map (λ step. EndsRow (λ t u. make_dict u (entries_from u es.items)) w new step) (λ step. Goes (λ t. pairs_row (t.tree c.args.e.0) es.items) w new step) c.make_dict.result (λ step k. dict-made w new c.args.e c.form.result.now es step c.form.ensures.stored (sym e ∙ c.in-None.is) c.requires.fits c.requires.found.1.1.0 k) goes

@@ -30,7 +30,7 @@ returns-in_ok-push-in-Ok-clause-goes c =
     let k = c.args.key in
     let v = c.in-Ok.value in
     subst (λ s. IfOk c.next_key.result (λ step. Resumes (OfKey e es k) s w new step)) (sym c.in-Ok.ensures.object)
-    (ok-map (λ step. Goes (λ t. pairs_row (t.tree e) c.push.new.self.items) w new step) (λ step. Resumes (OfKey e es k) (Ok (Value v)) w new step) c.next_key.result (λ step h. pair-found w new e es c.push.new.self k v step c.in_ok-push-in-Ok.ensures.items h) c.next_key.ensures.goes)
+    (ok-map (λ step. Goes (λ t. pairs_row (t.tree e.0) c.push.new.self.items) w new step) (λ step. Resumes (OfKey e es k) (Ok (Value v)) w new step) c.next_key.result (λ step h. pair-found w new e es c.push.new.self k v step c.in_ok-push-in-Ok.ensures.items h) c.next_key.ensures.goes)
 
 pub returns-in-Err-clause-goes : goal.returns-in-Err-clause-goes
 returns-in-Err-clause-goes c =
