@@ -1,7 +1,7 @@
 -- The words that the lemmas of this crate are written in: its own definitions, and words and lemmas of crates below.
 pub use Rattle.indexmap.specs.IndexMap.{insert_entry, shift_remove_entry}
 pub use Rattle.indexmap.specs.IndexSet.{insert_key}
-pub use Rattle.py_node.specs.Attributes.{AreNamesDistinct, is_same_name, with_value, without_key}
+pub use Rattle.py_node.specs.Attributes.{AreNamesDistinct, is_same_name, value_of, with_value, without_key}
 pub use Rattle.py_node.specs.Below.{Box, Global, Some, drop, keys_of, option_map, position, remove, slice_get, slice_index_or, slice_set}
 pub use Rattle.py_node.specs.BuiltIns.{built_in_count}
 unfoldable pub use Rattle.py_node.specs.BuiltIns.{all_built_ins}
@@ -41,6 +41,7 @@ pub use Rattle.std.proofs.lemmas.Bool.{eqb-true, le-ltb, lt-ltb}
 pub use Rattle.std.proofs.lemmas.Cmp.{int_eq_equiv}
 pub use Rattle.std.proofs.lemmas.Iterator.Adapters.{position_from-zero}
 pub use Rattle.std.proofs.lemmas.List.{drop_all}
+pub use Rattle.std.proofs.lemmas.List.Quantifiers.{position-Some}
 pub use Rattle.std.proofs.lemmas.Slice.Eq.{bytes_eq-Decides}
 pub use Rattle.std.specs.List.{AllByRecursion, find, list_any, position_from}
 unfoldable pub use Rattle.std.specs.List.{IsDistinct}

@@ -29,7 +29,7 @@ module _ {V : Type 0} where
       ∙ ap (λ r. a ∷ r) (with_value-next attrs i e apart.1 at)
 
   -- a name that is not there is not taken out
-  without-absent : (n : PyStrInterned) (attrs : List (PyStrInterned × V)) → AllByRecursion (λ k. is_same_name n k ≡ false) (keys_of attrs) → without_key is_same_name attrs n ≡ attrs
+  pub without-absent : (n : PyStrInterned) (attrs : List (PyStrInterned × V)) → AllByRecursion (λ k. is_same_name n k ≡ false) (keys_of attrs) → without_key is_same_name attrs n ≡ attrs
   without-absent n [] h = refl
   without-absent n (a ∷ attrs) h =
       ap (λ b. cond b (without_key is_same_name attrs n) (a ∷ without_key is_same_name attrs n)) (same_turned a.0 n ∙ h.0) ∙ ap (λ r. a ∷ r) (without-absent n attrs h.1)

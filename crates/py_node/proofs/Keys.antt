@@ -27,11 +27,11 @@ module _ {K : Type 0} (test : K → Bool) (ks : List K) (i : ℕ) where
   pub none-left : length ks ≤ i → from_here i ≡ None
   none-left l = ap (position_from test i) (drop_all i ks l)
 
-left-fails : (a b : Bool) → (a || b) ≡ false → a ≡ false
+pub left-fails : (a b : Bool) → (a || b) ≡ false → a ≡ false
 left-fails false b e = refl
 left-fails true b e = e
 
-right-fails : (a b : Bool) → (a || b) ≡ false → b ≡ false
+pub right-fails : (a b : Bool) → (a || b) ≡ false → b ≡ false
 right-fails false b e = e
 right-fails true b e = absurd (true≢false e)
 

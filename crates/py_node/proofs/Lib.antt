@@ -10,3 +10,4 @@ pub mod Faults
 pub mod BuiltInTable
 pub mod Dicts
 pub mod Keys
+pub mod FewNames

@@ -15,3 +15,4 @@ pub mod Operators
 pub mod OwnAttrs
 pub mod Dicts
 pub mod Keys
+pub mod AttributeStores

@@ -11,6 +11,7 @@ pub mod clone;
 pub mod dict;
 pub mod entry;
 pub mod expr;
+mod few_attributes;
 mod few_keys;
 mod filled_dict;
 pub mod flags;
