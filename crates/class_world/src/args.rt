@@ -83,7 +83,7 @@ pub fn filled(
     ensures holds { IfOk result (λ vars. (w : Held) → Holds w (AreNames names.now) → Holds w (AreNodes values.now) →
         AllHold w (of_each of_binding vars)) }
 {
-    let mut vars = PyAttributes::new(alloc);
+    let mut vars = PyAttributes::with_capacity(alloc, names.len().min(values.len()))?;
     for (name, value) in names.iter().zip(values) {
         vars.insert(*name, *value)?;
     }

@@ -1,9 +1,9 @@
 -- Attributes that are looked for one by one: at the place of a name its value is written, read and taken out.
-use Rattle.py_node.proofs.Below.{ℕ, zero, suc, Bool, true, false, true≢false, cond, eqb-true, List, [], length, take, get_or, slice_set, remove, position, list_any, None, refl, sym, ap, subst, ◌∙◌, arith, AllByRecursion, IsDistinct, keys_of, PyStrInterned, value_of, with_value, without_key, is_same_name, AreNamesDistinct, position-Some}
+use Rattle.py_node.proofs.Below.{ℕ, zero, suc, Bool, true, false, cond, eqb-true, List, [], length, take, get_or, insert_entry, slice_set, remove, position, list_any, None, refl, sym, ap, subst, ◌∙◌, arith, AllByRecursion, IsDistinct, keys_of, PyStrInterned, value_of, with_value, without_key, is_same_name, AreNamesDistinct, position-Some}
 use Rattle.py_node.proofs.Dicts.{none-passes}
-use Rattle.py_node.proofs.Entries.{with_value-next, without-absent}
+use Rattle.py_node.proofs.Entries.{insert_entry-with_value, with_value-next, without-absent}
 use Rattle.py_node.proofs.Keys.{left-fails, right-fails}
-use Rattle.std.proofs.Common.{◌≡◌, ◌+◌, ◌<◌, slice_get, ◌∷◌, ◌++◌, ◌||◌, Some}
+use Rattle.std.proofs.Common.{◌≡◌, ◌+◌, ◌<◌, slice_get, ◌∷◌, ◌++◌, Some}
 
 -- names are their numbers
 same-name : (a b : PyStrInterned) → is_same_name a b ≡ true → a ≡ b
@@ -96,10 +96,18 @@ module _ {V : Type 0} where
   got (e ∷ es) zero d l = refl
   got (e ∷ es) (suc i) d l = got es i d (omega (arith, l))
 
-  pub map-next : (es : List (PyStrInterned × V)) (i : ℕ) (d : PyStrInterned × V) → AreNamesDistinct es → i < length es → with_value is_same_name (take i es) (get_or es i d).0 (get_or es i d).1 ≡ take (i + 1) es
+  map-next : (es : List (PyStrInterned × V)) (i : ℕ) (d : PyStrInterned × V) → AreNamesDistinct es → i < length es → with_value is_same_name (take i es) (get_or es i d).0 (get_or es i d).1 ≡ take (i + 1) es
   map-next es i d apart l =
       let next : suc i ≡ i + 1 = omega arith in
       with_value-next es i (get_or es i d) apart (got es i d l) ∙ ap (λ n. take n es) next
+
+  -- the same of a map that has them, where the next is inserted
+  pub insert-next : (before after es : List (PyStrInterned × V)) (i : ℕ) (d : PyStrInterned × V) → after ≡ insert_entry is_same_name before (get_or es i d).0 (get_or es i d).1 → before ≡ take i es → AreNamesDistinct es → i < length es → after ≡ take (i + 1) es
+  insert-next before after es i d made front apart l =
+      made
+      ∙ insert_entry-with_value before (get_or es i d).0 (get_or es i d).1
+      ∙ ap (λ m. with_value is_same_name m (get_or es i d).0 (get_or es i d).1) front
+      ∙ map-next es i d apart l
 
   -- no name stands twice, whichever one gets a value or is taken out
   all-with : (P : PyStrInterned → Type 0) (es : List (PyStrInterned × V)) (n : PyStrInterned) (v : V) → AllByRecursion P (keys_of es) → P n → AllByRecursion P (keys_of (with_value is_same_name es n v))

@@ -2,7 +2,7 @@
 pub use Rattle.py_node.proofs.Below.{AreDistinct, AreNamesDistinct, CallParts, ClassParts, Expr, Global, PyObjectRef, PyStrInterned, Some, Stands, is_same_name, part_of, position, position_from, tree_of, with_value, without_key}
 pub use Rattle.py_node.proofs.Copies.{same_call, same_class}
 pub use Rattle.py_node.proofs.Dicts.{key-added, put-is}
-pub use Rattle.py_node.proofs.FewNames.{cut-absent, cut-found, distinct-with, distinct-without, is_of, map-next, set-absent, set-found, value-absent, value-found}
+pub use Rattle.py_node.proofs.FewNames.{cut-absent, cut-found, distinct-with, distinct-without, insert-next, is_of, set-absent, set-found, value-absent, value-found}
 pub use Rattle.py_node.proofs.Entries.{insert_entry-with_value, removed-without, with_value-next}
 pub use Rattle.py_node.proofs.Keys.{alike, distinct-pushed, distinct-removed, fails, inserted, none-left, passes, set-next, turned}
 pub use Rattle.py_node.proofs.SlotTables.{names_of_number, names_of_other}

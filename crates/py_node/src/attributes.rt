@@ -49,6 +49,19 @@ impl PyAttributes {
         }
     }
 
+    /// No attributes, with room for so many names.
+    pub fn with_capacity(alloc: Global, capacity: usize) -> Result<PyAttributes, OutOfMemory>
+        ensures { IfOk result (λ a. a ≡ []) }
+    {
+        let store = if capacity <= FEW {
+            AttributeStore::Few(FewAttributes::with_capacity(alloc, capacity)?)
+        } else {
+            let many = IndexMap::with_capacity(alloc, capacity)?;
+            AttributeStore::Many(Box::new(alloc, many)?)
+        };
+        Ok(PyAttributes { store })
+    }
+
     /// How many names there are.
     pub fn len(&self) -> usize
         ensures count { result ≡ length self.now }

@@ -38,6 +38,17 @@ impl FewAttributes {
         }
     }
 
+    /// No attributes, with room for so many.
+    pub(crate) fn with_capacity(
+        alloc: Global,
+        capacity: usize,
+    ) -> Result<FewAttributes, OutOfMemory>
+        ensures { IfOk result (λ a. a ≡ []) }
+    {
+        let entries = Vec::with_capacity(alloc, capacity)?;
+        Ok(FewAttributes { entries })
+    }
+
     /// Where it takes its memory from.
     pub(crate) fn allocator(&self) -> Global {
         *self.entries.allocator()
