@@ -24,6 +24,6 @@ returns c =
           ∙ ap (cond (nat_lt c.args.new.number.0 built_ins || not (is_empty c.args.new.members.items)) (Some c.args.new.number.0)) (sym c.inherited.ensures)
           ∙ ap (λ (ms : List PyStrInterned). cond (nat_lt c.args.new.number.0 built_ins || not (is_empty ms)) (Some c.args.new.number.0) (number_of c.inherited.result)) (sym c.deref.ensures.value)
           ∙ sym c.solid_of-solid.ensures;
-      subclasses = ap numbers c.new.ensures.items;
+      subclasses = ap numbers c.new-2.ensures.items;
       places = count-given kept ok new c.requires.fresh c.requires.below c.args.best c.requires.best (numbers c.args.rest.now) c.requires.rest ∙ ap Some (let h = c.in_ok-places.ensures in let n = c.len.ensures in omega (arith, h, n));
     }
